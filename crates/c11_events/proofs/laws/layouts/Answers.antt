@@ -1,0 +1,8 @@
+use Rattle.c11_events.proofs.Layouts.{layout_exists, layout_lawful}
+use Rattle.c11_events.proofs.laws.layouts.Goals as goal
+
+pub returns-clause-exists : goal.returns-clause-exists
+returns-clause-exists c = layout_exists
+
+pub returns-clause-lawful : goal.returns-clause-lawful
+returns-clause-lawful c = layout_lawful

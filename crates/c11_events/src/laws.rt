@@ -1,0 +1,90 @@
+ghost use Rattle.c11_events.specs.Laws.{HappensBeforeRises, HappensBeforeStays, HappensBeforeNew, ConsistentIsChainLawful, ChainLawfulIsConsistent, PrefixIsConsistent, OffersAgree, LastIsOffered, SomeIsOffered, LayoutIsLawful, LayoutExists, ReadFits, OthersFit, ReadFitsPriors, DeadIsNotOffered, RacesAreKept, RacingIsKept, ValueByRead, OneThreadReadsLast, StepStaysConsistent, InitsAreConsistent};
+
+/// Happens-before leads from smaller to larger numbers.
+pub fn happens_before_rises()
+    ensures { HappensBeforeRises }
+{}
+
+/// A new event adds no happens-before between earlier ones.
+pub fn happens_before_stays()
+    ensures { HappensBeforeStays }
+{}
+
+/// What happens before a new event, by the events with a step to it.
+pub fn happens_before_new()
+    ensures { HappensBeforeNew }
+{}
+
+/// A consistent list is chain-lawful.
+pub fn consistent_is_chain_lawful()
+    ensures { ConsistentIsChainLawful }
+{}
+
+/// A chain-lawful list is consistent.
+pub fn chain_lawful_is_consistent()
+    ensures { ChainLawfulIsConsistent }
+{}
+
+/// A prefix of a consistent list is consistent.
+pub fn prefix_is_consistent()
+    ensures { PrefixIsConsistent }
+{}
+
+/// Both ways to say what is offered agree.
+pub fn offers_agree()
+    ensures { OffersAgree }
+{}
+
+/// The last store of the cell in a lawful order is offered, so where the cell has a store, some store is.
+pub fn last_is_offered()
+    ensures last { LastIsOffered }
+    ensures some { SomeIsOffered }
+{}
+
+/// A chain-lawful list has a layout of each cell, and a layout is lawful.
+pub fn layouts()
+    ensures exists { LayoutExists }
+    ensures lawful { LayoutIsLawful }
+{}
+
+/// A read keeps a list chain-lawful exactly where it fits the chains of the list.
+pub fn read_fits()
+    ensures { ReadFits }
+{}
+
+/// An event that reads nothing keeps a list chain-lawful.
+pub fn others_fit()
+    ensures { OthersFit }
+{}
+
+/// The same by what the thread knows before it reads: what an acquire brings adds nothing.
+pub fn read_fits_priors()
+    ensures { ReadFitsPriors }
+{}
+
+/// A dead store is in no later offer.
+pub fn dead_is_not_offered()
+    ensures { DeadIsNotOffered }
+{}
+
+/// Where no earlier access raced, the latest race is with the last write or with the latest read of a thread.
+pub fn races_are_kept()
+    ensures races { RacesAreKept }
+    ensures racing { RacingIsKept }
+{}
+
+/// The value of a store, by that of the store it reads.
+pub fn value_by_read()
+    ensures { ValueByRead }
+{}
+
+/// The next read of a lone thread is offered the last store of its cell and no other.
+pub fn one_thread_reads_last()
+    ensures { OneThreadReadsLast }
+{}
+
+/// Histories stay consistent: from the Inits on, through each step whose read is offered.
+pub fn histories_are_consistent()
+    ensures inits { InitsAreConsistent }
+    ensures steps { StepStaysConsistent }
+{}

@@ -1,0 +1,4 @@
+pub mod Opened
+pub mod Responded
+pub mod Stepped
+pub mod Taken

@@ -1,0 +1,17 @@
+//! The numbers of C as the tested programs see them, and the small texts of the tester.
+//!
+//! `int` and `unsigned` have 32 bits, `long` and `unsigned long` 64, in two's complement
+//! (ISO/IEC 9899:2011, 5.2.4.2.1 and 6.2.6.2, with the widths chosen here).
+#![tactic(auto)]
+
+mod kind;
+mod memory;
+#[cfg(test)]
+mod tests;
+mod text;
+mod value;
+
+pub use kind::{BinaryOp, RmwKind};
+pub use memory::NoMemory;
+pub use text::{Bytes, Name};
+pub use value::{CType, CValue, in_range};
