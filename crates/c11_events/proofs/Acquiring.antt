@@ -70,7 +70,7 @@ module _ (events : List Event) (e : Event) (cell : ℕ) (c : ChainLawful events)
         | inr k ↦ inr (k.0, (k.1.0, hb_on a b k.0 h k.1.1))
       ]
 
-  -- a release that the new event reads from: a store of the chain of what it reads that is, or stands behind, the release
+  -- a release that the new event reads from: a store of the chain of what it reads that is, or stands after, the release
   released : (m : ℕ) → IsReadBy (events ++ e ∷ []) m (suc (length events)) → (s : ℕ) × ((n : ℕ) × (ReleaseSequence events cell s n e.from × SameOrHb m s))
   released m r =
       let at_new : r.l ≡ suc (length events) = elim r.acquires [

@@ -57,7 +57,7 @@ is_reading setting events thread (op.CompareExchange cell success failure weak e
     exchange_reading cell success failure desired (value_of events x) (int_eq (value_of events x).number expected.number)
 is_reading setting events thread _ c x is = cc
 
-contained : (xs : List ℕ) (x : ℕ) → Contains xs x → (k : ℕ) × (slice_get xs k ≡ Some x)
+pub contained : (xs : List ℕ) (x : ℕ) → Contains xs x → (k : ℕ) × (slice_get xs k ≡ Some x)
 contained xs x c = (c.0, at xs c.0 x c.1 c.2)
   where
     at : (xs : List ℕ) (k x : ℕ) → k < length xs → slice_index_or xs k x ≡ x → slice_get xs k ≡ Some x

@@ -25,7 +25,7 @@ module _ (events : List Event) (thread : ℕ) (reading : ℕ → EventKind) (cel
       → HappensBefore (extended events thread reading x) y n
   in_order x y n e f is is' same same' lt = one (inl (record { thread = record { event = e; is = is; holds = record { event = f; is = is'; holds = same ∙ sym same' } }; earlier = lt }))
 
-  -- a store behind the one that is read would hide it
+  -- a store after the one that is read would hide it
   hidden : (x y : ℕ) → IsOffered events thread reading cell x → IsStore events cell y → x < y → ⊥
   hidden x y o sy lt =
       let e : Event = record { number = length events + 1; thread = thread; kind = reading x; from = x } in

@@ -1,4 +1,4 @@
--- In an order with each read-modify-write immediately behind what it reads a chain stands in one piece.
+-- In an order with each read-modify-write immediately after what it reads a chain stands in one piece.
 use Rattle.std.proofs.Common.{◌≡◌, ℕ, suc, ◌+◌, ◌<◌, ◌≤◌, List, Some, slice_get, subst, arith}
 use native.Mathlib.Decide.{dec_le}
 use mathlib.Core.Logic.{dite}

@@ -9,7 +9,7 @@ pub data Releases (events : List Event) (a s : ℕ) : Type 0 where
   store : a ≡ s → At events a (λ e. is_release_store e.kind ≡ true) → Releases events a s
   fence : At events a (λ e. is_release_fence e.kind ≡ true) → ProgramOrder events a s → Releases events a s
 
--- b is an acquire load, or an acquire fence behind a load of its thread, and l is the load
+-- b is an acquire load, or an acquire fence after a load of its thread, and l is the load
 pub data Acquires (events : List Event) (b l : ℕ) : Type 0 where
   load : b ≡ l → At events b (λ e. is_acquire_load e.kind ≡ true) → Acquires events b l
   fence : At events b (λ e. is_acquire_fence e.kind ≡ true) → ProgramOrder events l b → Acquires events b l

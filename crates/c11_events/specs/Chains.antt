@@ -1,4 +1,4 @@
--- Chains, what must precede what, and the links between chains.
+-- Chains, what must precede what, and the links between chains (this project's own).
 use Rattle.std.specs.Prelude.{ℕ, ◌≡◌, ◌<◌, List, None, ◌⊎◌}
 use Rattle.c11_events.specs.declared.event.Event.{Event}
 use Rattle.c11_events.specs.Events.{At, IsStore, IsLoad, IsRmw, ReadsEarlier, loaded_cell}
@@ -6,7 +6,7 @@ use Rattle.c11_events.specs.Closure.{Closure}
 use Rattle.c11_events.specs.HappensBefore.{ReleaseSequence, HappensBefore, SeqCstBefore}
 use Rattle.c11_events.specs.Lawful.{Fenced, SeqCstReads}
 
--- x is in the chain that begins with head, behind rank read-modify-writes
+-- x is in the chain that begins with head; the rank counts the read-modify-writes in it up to x, x among them
 pub record IsRanked (events : List Event) (cell head rank x : ℕ) : Type 0 where
   pub chain : ReleaseSequence events cell head rank x
   pub first : At events head (λ e. loaded_cell e.kind ≡ None)

@@ -6,7 +6,7 @@ use Rattle.c11_events.specs.HappensBefore.{HappensBefore}
 use Rattle.c11_events.specs.Threads.{created, IsLive}
 use Rattle.c11_events.specs.Chains.{Reach}
 
--- behind the first n events the thread is live
+-- after the first n events the thread is live
 abbrev pub IsLiveAt : List Event → ℕ → ℕ → Type 0
 IsLiveAt events n u = IsLive (take n events) u
 
@@ -19,7 +19,7 @@ pub data IsMark (events : List Event) (u m : ℕ) : Type 0 where
   own : At events m (λ e. e.thread ≡ u) → ((b : ℕ) → At events b (λ e. e.thread ≡ u) → b ≤ m) → IsMark events u m
   made : ((b : ℕ) → At events b (λ e. e.thread ≡ u) → ⊥) → At events m (λ e. is_create e.kind ≡ true) → u ≡ created (take m events) → IsMark events u m
 
--- a store that x must precede, or a load that reads it, is the thread's mark or happens before it
+-- a store that x reaches, or a load that reads such a store, is the thread's mark or happens before it
 pub record HasPassed (events : List Event) (cell u x : ℕ) : Type 0 where
   pub mark : ℕ
   pub is_mark : IsMark events u mark
@@ -29,5 +29,6 @@ pub record HasPassed (events : List Event) (cell u x : ℕ) : Type 0 where
   pub touches : (a ≡ y) ⊎ IsLoad events cell a y
   pub leads : (a ≡ mark) ⊎ HappensBefore events a mark
 
+-- each live thread has passed x
 abbrev pub IsDead : List Event → ℕ → ℕ → Type 0
 IsDead events cell x = (u : ℕ) → IsLive events u → HasPassed events cell u x

@@ -1,4 +1,5 @@
--- Happens-before, and the order of the seq_cst events (C11 5.1.2.4, 7.17.3 and 7.17.4).
+-- Happens-before, and the order of the seq_cst events (C11 5.1.2.4, 7.17.3 and 7.17.4; for mutexes and threads
+-- 7.26.4.3, 7.26.4.5, 7.26.4.6, 7.26.5.1 and 7.26.5.6).
 use Rattle.std.specs.Prelude.{ℕ, suc, ◌≡◌, ◌<◌, ◌-◌, true, List, None, Some, take, ◌⊎◌}
 use Rattle.c11_events.specs.declared.event.Event.{Event}
 use Rattle.c11_events.specs.Closure.{Closure}

@@ -1,4 +1,5 @@
--- The orders of the stores of a cell, and which of them are lawful (C11 5.1.2.4 and 7.17.3).
+-- The orders of the stores of a cell, and which of them are lawful (C11 5.1.2.4 and 7.17.3; `fences_between_writes` and the wording
+-- of `SeqCstReads` are this project's own).
 use Rattle.std.specs.Prelude.{ℕ, suc, ◌≡◌, ◌<◌, ◌≤◌, true, List, Some, slice_get, length, ◌⊎◌}
 use Rattle.c11_events.specs.declared.event.Event.{Event}
 use Rattle.c11_events.specs.Events.{At, IsStore, IsLoad, IsRmw, ReadsEarlier, is_fence}

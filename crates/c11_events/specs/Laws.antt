@@ -67,21 +67,21 @@ abbrev pub ReadFits : Type 0
 ReadFits = (events : List Event) (e : Event) (cell : ℕ) → ChainLawful events → IsStore events cell e.from → loaded_cell e.kind ≡ Some cell
     → ChainLawful (events ++ e ∷ []) ↔ Fits events e cell
 
--- an event that reads nothing keeps a list chain-lawful
-abbrev pub OthersFit : Type 0
-OthersFit = (events : List Event) (e : Event) → ChainLawful events → loaded_cell e.kind ≡ None → ChainLawful (events ++ e ∷ [])
-
 -- the same, by what the thread knows before it reads: an acquire adds nothing
 abbrev pub ReadFitsPriors : Type 0
 ReadFitsPriors = (events : List Event) (e : Event) (cell : ℕ) → ChainLawful events → IsStore events cell e.from → loaded_cell e.kind ≡ Some cell
     → ChainLawful (events ++ e ∷ []) ↔ FitsPriors events e cell
+
+-- an event that reads nothing keeps a list chain-lawful
+abbrev pub OthersFit : Type 0
+OthersFit = (events : List Event) (e : Event) → ChainLawful events → loaded_cell e.kind ≡ None → ChainLawful (events ++ e ∷ [])
 
 -- a dead store is in no later offer
 abbrev pub DeadIsNotOffered : Type 0
 DeadIsNotOffered = (events more : List Event) (cell x u : ℕ) (reading : ℕ → EventKind) → AreOfLive (events ++ more) → IsDead events cell x → IsLive (events ++ more) u
     → loaded_cell (reading x) ≡ Some cell → IsOffered (events ++ more) u reading cell x → ⊥
 
--- where no earlier access raced, each access that races with n has a kept one behind it, or itself, that races with n: so the
+-- where no earlier access raced, each access that races with n has a kept one after it, or is one, that races with n: so the
 -- latest that races is a kept one
 abbrev pub RacesAreKept : Type 0
 RacesAreKept = (events : List Event) (cell n k : ℕ) → ReadsEarlier events → ((i j : ℕ) → j < n → Races events cell i j → ⊥) → Races events cell k n

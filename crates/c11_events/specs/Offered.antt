@@ -48,7 +48,7 @@ op_cell (op.CompareExchange cell success failure weak expected desired) = Some c
 op_cell _ = None
 
 -- what the operation becomes when it reads the store x: a compare-exchange is a read-modify-write where the value is the
--- expected one, and else a load (C11 7.17.7.4)
+-- expected one, and else a load (C11 7.17.7.4); both have the type of the cell, so their numbers decide
 abbrev pub op_reading : List Event → Op → ℕ → EventKind
 op_reading events (op.CompareExchange cell success failure weak expected desired) x =
     if int_eq (value_of events x).number expected.number then Rmw cell success Exchange desired else AtomicLoad cell failure

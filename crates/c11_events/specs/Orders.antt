@@ -1,4 +1,4 @@
--- Which memory orders an operation may have (ISO/IEC 9899:2011, 7.17.7; the doubtful failure orders are this project's own).
+-- Which memory orders an operation may have (ISO/IEC 9899:2011, 7.17.4.1 and 7.17.7; the doubtful failure orders are this project's own).
 use Rattle.std.specs.Prelude.{Bool, true, false}
 use Rattle.c11_events.specs.declared.order.Order.{Order}
 use Rattle.c11_events.specs.declared.order.Order.TheVariants.{Relaxed, Consume, Acquire, Release, SeqCst}

@@ -38,8 +38,8 @@ init_from cell (info ∷ more) =
 abbrev pub init_entries : List CellInfo → List Entry
 init_entries cells = init_from 0 cells
 
--- a way to say which list of stores is offered to a read of a cell: by the events before it, its thread, and what the operation
--- becomes with each store
+-- a way to say which list of stores is offered to a read: by the events before it, its thread, what the operation becomes with
+-- each store, and the cell
 abbrev pub Offering : Type 1
 Offering = List Event → ℕ → (ℕ → EventKind) → ℕ → List ℕ → Type 0
 

@@ -37,7 +37,7 @@ abbrev pub holder_from : Option ℕ → ℕ → List Event → Option ℕ
 holder_from held mutex [] = held
 holder_from held mutex (e ∷ es) = holder_from (holder_next held mutex e) mutex es
 
--- who holds the mutex behind the events: the thread that last found it free and did not unlock it since
+-- who holds the mutex after the events: the thread that last found it free and did not unlock it since
 abbrev pub holder : List Event → ℕ → Option ℕ
 holder events mutex = holder_from None mutex events
 

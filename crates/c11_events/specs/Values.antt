@@ -23,7 +23,7 @@ abbrev pub written_by : Option Event → (ℕ → TypedNumber) → TypedNumber
 written_by None value = no_value
 written_by (Some e) value = written e.kind (value e.from)
 
--- the value of the store x, through at most so many read-modify-writes
+-- the value of the store x, through at most so many stores, x among them
 abbrev pub value_within : ℕ → List Event → ℕ → TypedNumber
 value_within zero events x = no_value
 value_within (suc count) events x = written_by (event_at events x) (λ y. value_within count events y)

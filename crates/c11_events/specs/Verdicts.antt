@@ -60,14 +60,14 @@ pub record IsEnabled (next : ℕ → Option Ask) (entries : List Entry) (thread 
   pub is_next : next thread ≡ Some ask
   pub free : blocked_by (events_of entries) thread ask.op ≡ None
 
--- how the run stands by its steps alone: the first of what the last entry says, and the bound
+-- how the run stands by its steps alone: by what the last entry ends it with, else by the bound
 pub data StepVerdict (bound : ℕ) (entries : List Entry) : Option Verdict → Type 0 where
   by_last : {v : Verdict} → LastVerdict entries (Some v) → StepVerdict bound entries (Some v)
   by_bound : LastVerdict entries None → step_count entries ≡ bound → StepVerdict bound entries (Some Bound)
   undecided : LastVerdict entries None → step_count entries ≢ bound → StepVerdict bound entries None
 
 -- how the run stands, with the next operation of each thread: by its steps, else a deadlock where each live thread is stuck, and
--- none where a thread can go on
+-- none where a thread can go on (one of the two holds wherever each live thread asks for something, as in each program)
 pub data VerdictOf (next : ℕ → Option Ask) (bound : ℕ) (entries : List Entry) : Option Verdict → Type 0 where
   by_steps : {v : Verdict} → StepVerdict bound entries (Some v) → VerdictOf next bound entries (Some v)
   by_deadlock : StepVerdict bound entries None → ((thread : ℕ) → IsLive (events_of entries) thread → IsStuck next entries thread)

@@ -52,14 +52,14 @@ pub fn read_fits()
     ensures { ReadFits }
 {}
 
-/// An event that reads nothing keeps a list chain-lawful.
-pub fn others_fit()
-    ensures { OthersFit }
-{}
-
 /// The same by what the thread knows before it reads: what an acquire brings adds nothing.
 pub fn read_fits_priors()
     ensures { ReadFitsPriors }
+{}
+
+/// An event that reads nothing keeps a list chain-lawful.
+pub fn others_fit()
+    ensures { OthersFit }
 {}
 
 /// A dead store is in no later offer.

@@ -38,7 +38,7 @@ simple_quiet count op.Begin r s = (refl, refl, refl)
 simple_quiet count (op.End value) r s = (refl, refl, refl)
 simple_quiet count _ r s = absurd s
 
--- one more behind a list of which the first stays or goes
+-- one more after a list of which the first stays or goes
 count_on : (f e : Entry) (entries : List Entry) (b : Bool) → step_count (entries ++ e ∷ []) ≡ suc (step_count entries)
     → length (cond b (f ∷ filter (λ g. not (is_init g.op)) (entries ++ e ∷ [])) (filter (λ g. not (is_init g.op)) (entries ++ e ∷ [])))
     ≡ suc (length (cond b (f ∷ filter (λ g. not (is_init g.op)) entries) (filter (λ g. not (is_init g.op)) entries)))
@@ -49,7 +49,7 @@ count_more : (entries : List Entry) (e : Entry) → is_init e.op ≡ false → s
 count_more [] e is = ap (λ (b : Bool). length (cond (not b) (e ∷ []) [])) is
 count_more (f ∷ entries) e is = count_on f e entries (not (is_init f.op)) (count_more entries e is)
 
-says_last : (entries : List Entry) (e : Entry) → last_says (entries ++ e ∷ []) ≡ step_verdict e.thread e.op e.reply
+pub says_last : (entries : List Entry) (e : Entry) → last_says (entries ++ e ∷ []) ≡ step_verdict e.thread e.op e.reply
 says_last [] e = refl
 says_last (f ∷ []) e = refl
 says_last (f ∷ g ∷ entries) e = says_last (g ∷ entries) e
@@ -99,7 +99,7 @@ length-noted : (last : List LastStore) (o : Op) (number : ℕ) → length (noted
 length-noted last (op.AtomicStore cell order value) number = length-set last cell (record { number = number; value = value })
 length-noted last _ number = refl
 
--- the last stores behind the event of the operation
+-- the last stores after the event of the operation
 noted_kept : (events : List Event) (last : List LastStore) (o : Op) (r : Reply) (count number from : ℕ) → IsSimpleOp count o → number ≡ suc (length events)
     → ((cell : ℕ) (l : LastStore) → slice_get last cell ≡ Some l → IsKeptLast events cell l)
     → (cell : ℕ) (l : LastStore) → slice_get (noted last o number) cell ≡ Some l → IsKeptLast (events ++ record { number = number; thread = 0; kind = kind_of o r; from = from } ∷ []) cell l
@@ -174,7 +174,7 @@ module _ (cells : List CellInfo) (bound : ℕ) (entries : List Entry) (steps : �
     stands = stands;
   }
 
-  -- how the run stands behind the step, where its reply is no fault
+  -- how the run stands after the step, where its reply is no fault
   pub stands_stepped : step_verdict 0 o r ≡ op_verdict 0 o → StepVerdict bound (entries ++ e ∷ []) (ended_by (suc steps) bound o)
   stands_stepped no_fault = by_op o simple
       (subst (λ (v : Option Verdict). LastVerdict (entries ++ e ∷ []) v) (ap (λ (p : ℕ × (Op × Reply)). step_verdict p.0 p.1.0 p.1.1) (λ i. (made.of_thread i, (made.op i, made.reply i))) ∙ no_fault) says)
@@ -203,7 +203,7 @@ going bound entries _ (by_last l) is = cc
 going bound entries _ (by_bound l same) is = cc
 going bound entries _ (undecided l differ) is = differ
 
--- what is kept behind a step
+-- what is kept after a step
 pub after_step : StepStaysConsistent → (setting : Setting) (cells : List CellInfo) (bound : ℕ) (entries : List Entry) (steps : ℕ) (last : List LastStore) (ask : Ask) (e : Entry) → IsSound cells bound entries steps last None
     → IsSimpleOp (length cells) ask.op → IsStep Offered setting entries 0 ask e
     → IsSound cells bound (entries ++ e ∷ []) (suc steps) (noted last ask.op (length entries + 1)) (ended_by (suc steps) bound ask.op)

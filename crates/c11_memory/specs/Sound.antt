@@ -39,7 +39,7 @@ first_lasts_from cell (info ∷ more) = record { number = cell + 1; value = info
 abbrev pub first_lasts : List CellInfo → List LastStore
 first_lasts cells = first_lasts_from 0 cells
 
--- how a run stands behind its last operation, with so many steps
+-- how a run stands after its last operation, with so many steps
 abbrev pub ended_by : ℕ → ℕ → Op → Option Verdict
 ended_by steps bound (End value) = Some Done
 ended_by steps bound _ = if nat_eq steps bound then Some Bound else None

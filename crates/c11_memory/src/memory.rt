@@ -47,7 +47,7 @@ impl Model for Memory {
     ghost invariant = { λ m. IsSound m.cells.items m.bound m.entries.items m.steps m.last.items m.verdict };
 }
 
-// How a run stands behind an operation of thread 0, with so many steps.
+// How a run stands after an operation of thread 0, with so many steps.
 fn ending(op: &Op, steps: u32, bound: u32) -> Option<Verdict>
     ensures { result ≡ ended_by steps bound op.now }
 {

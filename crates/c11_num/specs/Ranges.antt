@@ -8,7 +8,7 @@ pub record TypedNumber : Type 0 where
   pub ctype : CType
   pub number : ℤ
 
--- the least number of a type; `negsuc n` is minus n + 1
+-- the least number of a type; `negsuc n` is -(n + 1)
 abbrev pub least_of : CType → ℤ
 least_of Int = negsuc (2 ^ 31 - 1)
 least_of Unsigned = pos 0
