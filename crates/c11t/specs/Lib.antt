@@ -1,0 +1,7 @@
+pub mod Answers
+pub mod FirstForm
+pub mod Fronts
+pub mod Programs
+pub mod Runs
+pub mod Texts
+pub mod Words

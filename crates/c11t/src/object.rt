@@ -1,0 +1,55 @@
+ghost use Rattle.std.specs.Prelude.{◌≡◌, ◌++◌, OnOk};
+ghost use Rattle.c11t.specs.Texts.{index_bytes, cell_bytes, function_bytes};
+
+use crate::text::Text;
+use c11_events::{CellInfo, FunctionInfo};
+use c11_num::NoMemory;
+
+/// What a text takes from the program: its cells, mutexes and functions by their numbers.
+#[derive(Clone, Copy)]
+pub struct Objects<'a> {
+    pub atomic: &'a [CellInfo],
+    pub plain: &'a [CellInfo],
+    pub mutexes: &'a [CellInfo],
+    pub functions: &'a [FunctionInfo],
+}
+
+// Adds the object's name.
+pub(crate) fn push_cell(text: &mut Text, cells: &[CellInfo], cell: u32) -> Result<(), NoMemory>
+    ensures { OnOk result (text.new ≡ text.old ++ cell_bytes cells.now cell) }
+{
+    match cells.get(cell as usize) {
+        Some(info) => {
+            text.bytes(info.name.as_slice())?;
+            push_index(text, info.index)
+        }
+        None => Ok(()),
+    }
+}
+
+fn push_index(text: &mut Text, index: Option<u32>) -> Result<(), NoMemory>
+    ensures { OnOk result (text.new ≡ text.old ++ index_bytes index) }
+{
+    match index {
+        Some(index) => {
+            text.word("[")?;
+            text.number(u64::from(index))?;
+            text.word("]")
+        }
+        None => Ok(()),
+    }
+}
+
+// Adds the function's name.
+pub(crate) fn push_function(
+    text: &mut Text,
+    functions: &[FunctionInfo],
+    function: u32,
+) -> Result<(), NoMemory>
+    ensures { OnOk result (text.new ≡ text.old ++ function_bytes functions.now function) }
+{
+    match functions.get(function as usize) {
+        Some(info) => text.bytes(info.name.as_slice()),
+        None => Ok(()),
+    }
+}

@@ -1,0 +1,212 @@
+use super::{HEAD, LOAD, STORE, words_of};
+use crate::top::c11t;
+use crate::words::Status;
+use c11_io::{MemSink, MemSource, OpenGate, read_all};
+use std::alloc::Global;
+use std::test::Fail;
+
+// The program of the first row: one store, and one load that reads it.
+const FIRST: &str = "#include <stdatomic.h>
+atomic_int x;
+int main(void) {
+  atomic_store_explicit(&x, 1, memory_order_relaxed);
+  atomic_load_explicit(&x, memory_order_relaxed);
+}
+";
+
+const FIRST_DONE: &str = "c11t 1 run seed 7 steps 2000
+1 t0 l0 init x 0
+2 t0 l0 begin main 0
+3 t0 l4 store x relaxed 1
+4 t0 l5 load x relaxed = 1 from 3 of 3
+5 t0 l6 end 0
+verdict done
+";
+
+const FIRST_OF_THREE: &str = "c11t 1 run seed 0 steps 3
+1 t0 l0 init x 0
+2 t0 l0 begin main 0
+3 t0 l4 store x relaxed 1
+4 t0 l5 load x relaxed = 1 from 3 of 3
+verdict bound
+";
+
+const FIRST_OF_FOUR: &str = "c11t 1 run seed 0 steps 4
+1 t0 l0 init x 0
+2 t0 l0 begin main 0
+3 t0 l4 store x relaxed 1
+4 t0 l5 load x relaxed = 1 from 3 of 3
+5 t0 l6 end 0
+verdict done
+";
+
+// Each load reads the last store of its own cell.
+const TWO_CELLS: &str = "#include <stdatomic.h>
+atomic_int b;
+atomic_int a;
+int main(void) {
+  atomic_load_explicit(&a, memory_order_relaxed);
+  atomic_store_explicit(&a, 999999999, memory_order_relaxed);
+  atomic_store_explicit(&b, 20, memory_order_relaxed);
+  atomic_load_explicit(&a, memory_order_relaxed);
+  atomic_store_explicit(&b, 0, memory_order_relaxed);
+  atomic_load_explicit(&b, memory_order_relaxed);
+}
+";
+
+const TWO_CELLS_DONE: &str = "c11t 1 run seed 0 steps 2000
+1 t0 l0 init b 0
+2 t0 l0 init a 0
+3 t0 l0 begin main 0
+4 t0 l5 load a relaxed = 0 from 2 of 2
+5 t0 l6 store a relaxed 999999999
+6 t0 l7 store b relaxed 20
+7 t0 l8 load a relaxed = 999999999 from 5 of 5
+8 t0 l9 store b relaxed 0
+9 t0 l10 load b relaxed = 0 from 8 of 8
+10 t0 l11 end 0
+verdict done
+";
+
+const USAGE: &str = "c11t run [--seed S] [--steps B]
+c11t threads [--seed S] [--steps B] [--workers W]
+c11t campaign [--first S] [--count N] [--steps B] [--workers W]
+c11t trial [--number N] [--size Z] [--first S] [--count N] [--steps B] [--workers W]
+c11t help
+";
+
+/// What the program answers to these words where the source holds this text: its status, and what the sink took.
+fn answer(alloc: Global, line: &str, text: &str) -> Result<(Status, Vec<u8>), Fail> {
+    let words = words_of(alloc, line)?;
+    let mut source = MemSource::new(text.as_bytes().to_vec(alloc)?, 1_000, Vec::new(alloc));
+    let mut sink = MemSink::new(alloc, 200_000, 1_000, Vec::new(alloc))?;
+    let status = c11t(
+        &(),
+        alloc,
+        words.as_slice(),
+        &mut source,
+        &mut sink,
+        &OpenGate,
+    );
+    Ok((status, sink.taken().to_vec(alloc)?))
+}
+
+#[test]
+fn a_run_ends_where_its_program_or_its_bound_says(rt: HostRuntime) -> Result<(), Fail> {
+    for (line, text, status, printed) in [
+        ("run --seed 7", FIRST, Status::Done, FIRST_DONE),
+        ("run --steps 3", FIRST, Status::Bound, FIRST_OF_THREE),
+        ("run --steps 4", FIRST, Status::Done, FIRST_OF_FOUR),
+        ("run", TWO_CELLS, Status::Done, TWO_CELLS_DONE),
+    ] {
+        let (found, taken) = answer(rt.alloc(), line, text)?;
+        assert_eq!(rt; found, status, "{line}");
+        assert_eq!(rt; taken.as_slice(), printed.as_bytes(), "{line}");
+    }
+    Ok(())
+}
+
+#[test]
+fn texts_of_another_form_are_refused(rt: HostRuntime) -> Result<(), Fail> {
+    // 65,536 bytes are a program, and with one more the text is too long.
+    let mut long = String::from_str(rt.alloc(), HEAD)?;
+    for _ in 0..20 {
+        long.push_str(STORE)?;
+    }
+    for _ in 0..1_288 {
+        long.push_str(LOAD)?;
+    }
+    long.push_str("}\n\n")?;
+    assert_eq!(rt; long.len(), 65_537);
+    for text in [
+        "",
+        "}\n",
+        "#include <stdatomic.h>\r\nint main(void) {\r\n}\r\n",
+        "#include <stdatomic.h>\nint main(void) {\n}",
+        "#include <stdatomic.h>\nint main(void) {\n}\n\0",
+        "#include <stdatomic.h>\natomic_int x;\natomic_int x;\nint main(void) {\n}\n",
+        long.as_str(),
+    ] {
+        let (status, taken) = answer(rt.alloc(), "run", text)?;
+        assert_eq!(rt; status, Status::Refused);
+        assert_eq!(rt; taken.as_slice(), b"refused form\n".as_slice());
+    }
+    Ok(())
+}
+
+#[test]
+fn words_without_a_reading_get_the_usage_and_leave_the_source(rt: HostRuntime) -> Result<(), Fail> {
+    for line in [
+        "",
+        "walk",
+        "run --seed",
+        "run --steps 0",
+        "run --steps 10001",
+    ] {
+        let words = words_of(rt.alloc(), line)?;
+        let mut source = MemSource::new(
+            FIRST.as_bytes().to_vec(rt.alloc())?,
+            16,
+            Vec::new(rt.alloc()),
+        );
+        let mut sink = MemSink::new(rt.alloc(), 1_000, 7, Vec::new(rt.alloc()))?;
+        let answer = c11t(
+            &rt,
+            rt.alloc(),
+            words.as_slice(),
+            &mut source,
+            &mut sink,
+            &OpenGate,
+        );
+        assert_eq!(rt; answer, Status::Usage, "{line}");
+        assert_eq!(rt; sink.taken(), USAGE.as_bytes(), "{line}");
+        let left = read_all(rt.alloc(), &mut source, 1_000)?;
+        assert_eq!(rt; left.as_slice(), FIRST.as_bytes(), "{line}");
+    }
+    Ok(())
+}
+
+#[test]
+fn a_failing_read_writes_nothing(rt: HostRuntime) -> Result<(), Fail> {
+    let words = words_of(rt.alloc(), "run --seed 7")?;
+    let failing = vec![in rt.alloc(); 2]?;
+    let mut source = MemSource::new(FIRST.as_bytes().to_vec(rt.alloc())?, 16, failing);
+    let mut sink = MemSink::new(rt.alloc(), 1_000, 0, Vec::new(rt.alloc()))?;
+    let answer = c11t(
+        &rt,
+        rt.alloc(),
+        words.as_slice(),
+        &mut source,
+        &mut sink,
+        &OpenGate,
+    );
+    assert_eq!(rt; answer, Status::ReadFault);
+    assert_eq!(rt; sink.taken(), b"".as_slice());
+    Ok(())
+}
+
+#[test]
+fn a_failing_write_leaves_the_beginning_of_the_text(rt: HostRuntime) -> Result<(), Fail> {
+    let words = words_of(rt.alloc(), "run --seed 7")?;
+    let mut source = MemSource::new(
+        FIRST.as_bytes().to_vec(rt.alloc())?,
+        0,
+        Vec::new(rt.alloc()),
+    );
+    let failing = vec![in rt.alloc(); 2]?;
+    let mut sink = MemSink::new(rt.alloc(), 1_000, 32, failing)?;
+    let answer = c11t(
+        &rt,
+        rt.alloc(),
+        words.as_slice(),
+        &mut source,
+        &mut sink,
+        &OpenGate,
+    );
+    assert_eq!(rt; answer, Status::WriteFault);
+    assert_eq!(rt;
+        sink.taken(),
+        b"c11t 1 run seed 7 steps 2000\n1 t".as_slice()
+    );
+    Ok(())
+}
