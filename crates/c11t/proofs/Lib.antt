@@ -1,6 +1,8 @@
 pub mod Answering
 pub mod FormLemmas
+pub mod LegalRuns
 pub mod NumberLemmas
+pub mod OneRuns
 pub mod Running
 pub mod Settings
 pub mod Sizes

@@ -2,6 +2,7 @@ pub mod Answers
 pub mod FirstForm
 pub mod Fronts
 pub mod Programs
+pub mod RunLaws
 pub mod Runs
 pub mod Texts
 pub mod Words

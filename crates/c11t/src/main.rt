@@ -4,6 +4,7 @@
 mod command;
 mod execution;
 mod form;
+mod laws;
 mod line;
 mod object;
 mod run;
