@@ -1,0 +1,7 @@
+mod CommentEnds
+mod Quotes
+mod Marks
+mod Longest
+mod Numbers
+mod Directives
+mod Scanning

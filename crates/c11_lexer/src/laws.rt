@@ -1,0 +1,24 @@
+//! Laws of the definitions. Each function does nothing: its contract is the law.
+
+ghost use Rattle.c11_lexer.specs.Pieces.{SomeLongest, OneLongest};
+ghost use Rattle.c11_lexer.specs.Scan.{OneScan, SlicesRise};
+
+/// Each text that is not empty begins with a longest piece.
+pub fn some_longest()
+    ensures { SomeLongest }
+{}
+
+/// A text begins with one longest piece at most.
+pub fn one_longest()
+    ensures { OneLongest }
+{}
+
+/// A text has one Scan at most: its tokens or its first fault, never both, never two.
+pub fn one_scan()
+    ensures { OneScan }
+{}
+
+/// The slices of a text's tokens rise and lie inside the text.
+pub fn slices_rise()
+    ensures { SlicesRise }
+{}
