@@ -1,0 +1,17 @@
+pub mod Filling
+pub mod Ways
+pub mod Numbers
+pub mod Ends
+pub mod Sequences
+pub mod Conflicts
+pub mod Places
+pub mod Loads
+pub mod FenceWays
+pub mod LastStores
+pub mod Keeping
+pub mod EarlierReads
+pub mod Extending
+pub mod Rising
+pub mod ChainPlaces
+pub mod Causes
+pub mod ChainCells

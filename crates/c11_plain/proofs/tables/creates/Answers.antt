@@ -1,0 +1,8 @@
+use Rattle.std.proofs.Common.{rules}
+use Rattle.c11_plain.proofs.Filling.{made}
+use Rattle.c11_plain.proofs.Ends.{creates_ends}
+use Rattle.c11_events.specs.HappensBefore.{CreateBeforeFirst}
+use Rattle.c11_plain.proofs.tables.creates.Goals as goal
+
+pub returns : goal.returns
+returns c = made _ _ c.new.result (CreateBeforeFirst c.args.events.now) c.new.ensures (creates_ends c.args.events.now _ c.in_ok-count_of.ensures) (λ a b la lb t. search rules) (λ a b la lb t h. search rules)

@@ -1,0 +1,9 @@
+pub mod Pairs
+pub mod Parts
+pub mod Orders
+pub mod Rules
+pub mod SeqCst
+pub mod Relations
+pub mod Reading
+pub mod Consistency
+pub mod ChainParts

@@ -1,0 +1,8 @@
+/// Where a store stands in its chain of read-modify-writes.
+#[derive(Clone, Copy, Debug, PartialEq, Eq)]
+pub(crate) struct Rank {
+    /// The store that the chain begins with.
+    pub(crate) head: u32,
+    /// How many read-modify-writes lead from there.
+    pub(crate) rank: u32,
+}
