@@ -5,3 +5,4 @@ mod Longest
 mod Numbers
 mod Directives
 mod Scanning
+mod EveryText

@@ -101,6 +101,10 @@ Scan = Scans start
 abbrev pub OneScan : Type 0
 OneScan = (text : Text) (one other : Scanned) → Scan text one → Scan text other → one ≡ other
 
+-- Each text has a Scan.
+abbrev pub SomeScan : Type 0
+SomeScan = (text : Text) → (scanned : Scanned) × Scan text scanned
+
 -- The tokens' slices rise, and lie between these two places.
 pub data Rise : ℕ → List Token → ℕ → Type 0 where
   none : {from last : ℕ} → from ≤ last → Rise from [] last

@@ -1,7 +1,7 @@
 //! Laws of the definitions. Each function does nothing: its contract is the law.
 
 ghost use Rattle.c11_lexer.specs.Pieces.{SomeLongest, OneLongest};
-ghost use Rattle.c11_lexer.specs.Scan.{OneScan, SlicesRise};
+ghost use Rattle.c11_lexer.specs.Scan.{SomeScan, OneScan, SlicesRise};
 
 /// Each text that is not empty begins with a longest piece.
 pub fn some_longest()
@@ -11,6 +11,11 @@ pub fn some_longest()
 /// A text begins with one longest piece at most.
 pub fn one_longest()
     ensures { OneLongest }
+{}
+
+/// Each text has a Scan.
+pub fn some_scan()
+    ensures { SomeScan }
 {}
 
 /// A text has one Scan at most: its tokens or its first fault, never both, never two.

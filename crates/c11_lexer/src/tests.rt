@@ -105,6 +105,10 @@ fn tokens_are_taken_by_longest_match(rt: HostRuntime) -> Result<(), Fail> {
         ("\"\"", "1:1 \"\" text ; "),
         ("#include <stdio.h>", "1:1 #include <stdio.h> include; "),
         (
+            "#define A 1\r\n",
+            "1:1 #define define; 1:9 A word; 1:11 1 Int 1; ",
+        ),
+        (
             "\t# include<threads.h>//x",
             "1:2 # include<threads.h> include; ",
         ),
@@ -239,6 +243,16 @@ fn the_first_fault_is_told_with_its_place(rt: HostRuntime) {
         ("#include <stdio.h> x", LexFault::Directive(1, 1)),
         ("#include <stdio.h", LexFault::Directive(1, 1)),
         ("# /*\n*/ define A 1", LexFault::Directive(1, 1)),
+        ("a\n 08", LexFault::Literal(2, 2)),
+        ("a\n /*", LexFault::Comment(2, 2)),
+        ("a\n #x", LexFault::Directive(2, 2)),
+        ("a /**/ # define A 1", LexFault::Byte(1, 8)),
+        ("\"\x7f\"", LexFault::Literal(1, 1)),
+        ("#define A 18446744073709551616", LexFault::Literal(1, 11)),
+        (
+            "#define A 18446744073709551616 x",
+            LexFault::Directive(1, 1),
+        ),
     ];
     for (text, want) in cases {
         match scanned(&rt, rt.alloc(), text.as_bytes()) {
