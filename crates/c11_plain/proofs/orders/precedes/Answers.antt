@@ -1,4 +1,4 @@
-use Rattle.std.proofs.Common.{rules}
+use Rattle.std.proofs.Common.{rules, length}
 use Rattle.std.proofs.lemmas.Option.{slice_get_within}
 use Rattle.c11_plain.proofs.Filling.{some_of}
 use Rattle.c11_plain.proofs.Places.{PrecedesAt, precedes_at, at_precedes}
@@ -7,6 +7,6 @@ use Rattle.c11_plain.proofs.orders.precedes.Goals as goal
 pub returns : goal.returns
 returns c =
     let order = c.args.order.now in
-    let e = some_of c.some_place.result _ _ (PrecedesAt order c.args.x c.args.y) c.some_place.ensures
+    let e = some_of c.some_place.result (length order) _ (PrecedesAt order c.args.x c.args.y) c.some_place.ensures
     (λ k h. slice_get_within order k c.args.y h.0) (λ k lt t. search rules) (λ k lt t h. search rules) in
     (λ h. precedes_at order c.args.x c.args.y (e.0 h), λ p. e.1 (at_precedes order c.args.x c.args.y p))
