@@ -233,7 +233,7 @@ fn the_first_fault_is_told_with_its_place(rt: HostRuntime) {
         ("#define A 1;", LexFault::Directive(1, 1)),
         ("#define A -1", LexFault::Directive(1, 1)),
         ("#define A", LexFault::Directive(1, 1)),
-        ("#define A1", LexFault::Directive(1, 1)),
+        ("#define SIZE1", LexFault::Directive(1, 1)),
         ("#define 1 1", LexFault::Directive(1, 1)),
         ("#define A 08", LexFault::Directive(1, 1)),
         ("#defineA 1", LexFault::Directive(1, 1)),
