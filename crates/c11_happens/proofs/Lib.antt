@@ -1,0 +1,4 @@
+pub mod Clocks
+pub mod Handing
+pub mod Rows
+pub mod Steps

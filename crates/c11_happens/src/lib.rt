@@ -1,0 +1,7 @@
+//! Happens-before, kept by clocks.
+#![tactic(auto)]
+
+mod hand;
+mod kinds;
+mod mutexes;
+mod take;
