@@ -1,4 +1,7 @@
 pub mod Clocks
 pub mod Handing
+pub mod Marking
 pub mod Rows
+pub mod Keeping
 pub mod Steps
+pub mod Taking

@@ -112,7 +112,7 @@ module _ (events : List Event) (e : Event) where
     direct_takes m (inr s) = by_sync m (let lt = step_rises (events ++ e ∷ []) m (suc (length events)) reads (inr s) in omega arith) s
 
   -- the way back
-  order_new : (a : ℕ) → IsOf events e.thread a → ProgramOrder (events ++ e ∷ []) a (suc (length events))
+  pub order_new : (a : ℕ) → IsOf events e.thread a → ProgramOrder (events ++ e ∷ []) a (suc (length events))
   order_new a is = record {
     thread = more a (λ f. At (events ++ e ∷ []) (suc (length events)) (λ g. f.thread ≡ g.thread)) (record { event = is.event; is = is.is; holds = at_new (λ g. is.event.thread ≡ g.thread) is.holds });
     earlier = omega (arith, below a (λ f. f.thread ≡ e.thread) is);
