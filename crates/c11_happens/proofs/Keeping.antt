@@ -19,7 +19,8 @@ use Rattle.c11_happens.specs.Noting.{row, AreWide, Tables, joined_if, is_store, 
 use Rattle.c11_happens.specs.Kept.{IsKept, AreSized, IsLastUnlock}
 use Rattle.c11_happens.proofs.Clocks.{clock_join, clock_same, clock_zero, clock_more}
 use Rattle.c11_happens.proofs.Marking.{clock_if, clock_at, clock_at_more, clock_read, clock_read_more, clock_own, clock_knows, Starts, clock_hands_more, clock_unlocks_more, HandsNew, clock_hands_new, created_next, positive, split_at, join_at, unlock_stores_nothing, store_unlocks_nothing, handed_below}
-use Rattle.c11_happens.proofs.Rows.{row_at, row_else, row_set, wide_set, set_length, length_joined}
+use Rattle.c11_happens.proofs.Places.{length_joined}
+use Rattle.c11_happens.proofs.Rows.{row_at, row_else, row_set, wide_set, set_length}
 use Rattle.c11_happens.proofs.Steps.{of_new, at_new, old, more, below}
 use Rattle.c11_happens.proofs.Taking.{from_earlier, size_if, handed_clock, last_clock, last_within, raised_clock, size_raised, own_is, size_own}
 

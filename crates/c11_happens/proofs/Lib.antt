@@ -1,6 +1,7 @@
 pub mod Clocks
 pub mod Handing
 pub mod Marking
+pub mod Places
 pub mod Rows
 pub mod Keeping
 pub mod Steps

@@ -15,7 +15,7 @@ use Rattle.c11_happens.specs.Noting.{row, AreWide, Tables, joined_if, after_stor
 use Rattle.c11_happens.specs.Kept.{IsKept, AreSized}
 use Rattle.c11_happens.proofs.Clocks.{clock_join, clock_same, clock_zero, clock_new}
 use Rattle.c11_happens.proofs.Marking.{clock_if, acquire_loads, positive}
-use Rattle.c11_happens.proofs.Rows.{length_joined, length_joined_if}
+use Rattle.c11_happens.proofs.Places.{length_joined, length_joined_if}
 use Rattle.c11_happens.proofs.Steps.{new_load, direct_takes, takes_direct}
 
 none_of : (h : Option ℕ) → (if is_some h then false else true) ≡ true → h ≡ None

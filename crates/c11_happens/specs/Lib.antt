@@ -1,6 +1,8 @@
 pub mod Covers
+pub mod Kept
 pub mod Kinds
 pub mod Marks
-pub mod Noting
-pub mod Kept
 pub mod Mutexes
+pub mod Noting
+pub mod Sound
+pub mod Trace

@@ -44,8 +44,11 @@ abbrev pub after_end : Option ℕ → List (List ℕ) → List ℕ → List ℕ
 after_end None ended clock = clock
 after_end (Some thread) ended clock = joined_if (nat_lt thread (length ended)) clock (row ended thread)
 
+abbrev pub takes : Event → List (List ℕ) → List (List ℕ) → List (List ℕ) → List (List ℕ) → (ℕ → MutexState) → List ℕ
+takes e known passed read ended mutexes = after_end (joined_thread e.kind) ended (after_unlock (locked_mutex e.kind) mutexes passed (after_fence e read (after_store e passed (row known e.thread))))
+
 abbrev pub taken : Tables → Event → List ℕ
-taken t e = after_end (joined_thread e.kind) t.ended (after_unlock (locked_mutex e.kind) t.mutexes t.passed (after_fence e t.read (after_store e t.passed (row t.known e.thread))))
+taken t e = takes e t.known t.passed t.read t.ended t.mutexes
 
 -- the event's own clock
 abbrev pub raised : List ℕ → ℕ → ℕ → List ℕ
@@ -91,3 +94,22 @@ pub record IsNoted (t : Tables) (e : Event) (u : Tables) : Type 0 where
   pub read : u.read ≡ slice_set t.read e.thread (joined_if (is_load e) (row t.read e.thread) (row t.passed e.from))
   pub ended : u.ended ≡ slice_set t.ended e.thread (joined_if (is_end e.kind) (row t.ended e.thread) (own_clock t e))
   pub mutexes : (mutex : ℕ) → u.mutexes mutex ≡ mutex_next mutex (t.mutexes mutex) e
+
+-- the event has its places in the tables
+pub record IsReady (t : Tables) (e : Event) : Type 0 where
+  pub number : e.number < length t.clocks
+  pub number_passed : e.number < length t.passed
+  pub thread : e.thread < length t.known
+  pub fenced : length t.fenced ≡ length t.known
+  pub read : length t.read ≡ length t.known
+  pub ended : length t.ended ≡ length t.known
+  pub from : is_load e ≡ true → e.from < e.number
+  pub acquired : is_acquire_load e.kind ≡ true → e.from < length t.passed
+  pub unlocks : (mutex : ℕ) → (t.mutexes mutex).last_unlock < e.number
+  pub unlocked : (mutex : ℕ) → (t.mutexes mutex).last_unlock < length t.passed
+  pub wide_clocks : AreWide (length t.known) t.clocks
+  pub wide_passed : AreWide (length t.known) t.passed
+  pub wide_known : AreWide (length t.known) t.known
+  pub wide_fenced : AreWide (length t.known) t.fenced
+  pub wide_read : AreWide (length t.known) t.read
+  pub wide_ended : AreWide (length t.known) t.ended

@@ -1,8 +1,8 @@
 //! What later events may take over from an event.
-#![tactic(auto, using(crate::proofs::Rows::length_joined))]
+#![tactic(auto, using(crate::proofs::Places::length_joined))]
 
-ghost use Rattle.std.specs.Prelude.{◌≡◌, ◌<◌, ℕ, true, length, slice_set};
-ghost use Rattle.c11_events.specs.Events.{unlocked_mutex};
+ghost use Rattle.std.specs.Prelude.{◌≡◌, ◌+◌, ◌^◌, ◌<◌, ℕ, true, length, slice_set, if◌then◌else◌};
+ghost use Rattle.c11_events.specs.Events.{unlocked_mutex, is_create};
 ghost use Rattle.c11_happens.specs.Noting.{row, AreWide, by_stored, by_unlocked, is_load, is_store, started, joined_if};
 ghost use Rattle.c11_happens.specs.Mutexes.{state_in};
 
@@ -104,13 +104,27 @@ pub(crate) fn hand_on(
     hand_unlock(clock, event, mutexes, earlier, own);
 }
 
-/// A created thread that has done nothing yet knows what its Create knows.
-pub(crate) fn start(known: &mut [Clock], thread: u32, own: &Clock)
+// A created thread that has done nothing yet knows what its Create knows.
+fn start(known: &mut [Clock], thread: u32, own: &Clock)
     requires wide { AreWide (length own.now) known.old }
     requires threads { length known.old ≡ length own.now }
     ensures { known.new ≡ started known.old own.now thread }
 {
     if (thread as usize) < known.len() && known[thread as usize].get(thread) == 0 {
         known[thread as usize].join(own);
+    }
+}
+
+/// Counts a Create, and starts the thread that it makes.
+pub(crate) fn note_create(known: &mut [Clock], created: &mut u32, event: &Event, own: &Clock)
+    requires fits { created.old + 1 < 2 ^ 32 }
+    requires wide { AreWide (length own.now) known.old }
+    requires threads { length known.old ≡ length own.now }
+    ensures created { created.new ≡ created.old + (if is_create event.now.kind then 1 else 0) }
+    ensures known { known.new ≡ (if is_create event.now.kind then started known.old own.now (created.old + 1) else known.old) }
+{
+    if kinds::is_create(&event.kind) {
+        *created += 1;
+        start(known, *created, own);
     }
 }

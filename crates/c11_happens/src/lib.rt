@@ -1,7 +1,11 @@
-//! Happens-before, kept by clocks.
+//! Happens-before, kept by clocks: each event is noted once, at the cost of a few joins of clocks, and then each question about two
+//! events is one comparison.
 #![tactic(auto)]
 
+mod copy;
 mod hand;
+mod tables;
 mod kinds;
 mod mutexes;
 mod take;
+
