@@ -4,5 +4,6 @@ pub mod Marking
 pub mod Places
 pub mod Rows
 pub mod Keeping
+pub mod Opening
 pub mod Steps
 pub mod Taking

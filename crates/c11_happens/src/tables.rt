@@ -1,7 +1,8 @@
 //! The clocks that are kept.
-ghost use Rattle.std.specs.Prelude.{◌≡◌, ◌+◌, ◌<◌, ◌≤◌, ◌^◌, true, IfOk, length, replicate, slice_set};
+ghost use Rattle.std.specs.Prelude.{◌≡◌, ◌+◌, ◌<◌, ◌≤◌, ◌^◌, true, [], IfOk, length, replicate, slice_set};
 ghost use Rattle.std.specs.HashMap.{spare};
 ghost use Rattle.c11_happens.specs.Noting.{row, AreWide, joined_if, is_load, IsReady, IsNoted};
+ghost use Rattle.c11_happens.specs.Kept.{IsKept};
 ghost use Rattle.c11_happens.specs.Sound.{tables_of};
 
 use crate::hand::{hand_on, keep_read, note_create};
@@ -70,7 +71,10 @@ fn note_own(table: &mut [Clock], condition: bool, thread: u32, own: &Clock)
 
 impl Kept {
     /// No event yet, with room for so many.
-    pub(crate) fn open(alloc: Global, threads: u32, events: u32) -> Result<Kept, NoMemory> {
+    pub(crate) fn open(alloc: Global, threads: u32, events: u32) -> Result<Kept, NoMemory>
+        ensures kept { IfOk result (λ kept. IsKept threads events [] (tables_of kept)) }
+        ensures room { IfOk result (λ kept. events ≤ spare kept.mutexes) }
+    {
         let rows = events as usize + 1;
         let count = threads as usize;
         Ok(Kept {
