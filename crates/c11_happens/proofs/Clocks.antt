@@ -23,7 +23,7 @@ index-replicate zero i = refl
 index-replicate (suc n) zero = refl
 index-replicate (suc n) (suc i) = index-replicate n i
 
-up_to_up_to : (events : List Event) (a b c : ℕ) → UpTo events b a → UpTo events c b → UpTo events c a
+pub up_to_up_to : (events : List Event) (a b c : ℕ) → UpTo events b a → UpTo events c b → UpTo events c a
 up_to_up_to events a b c (inl same) v = subst (λ (z : ℕ). UpTo events c z) (sym same) v
 up_to_up_to events a b c (inr h) (inl same) = inr (subst (λ (z : ℕ). HappensBefore events a z) same h)
 up_to_up_to events a b c (inr h) (inr k) = inr (join h k)

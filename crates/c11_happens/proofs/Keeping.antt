@@ -28,7 +28,7 @@ holder_more : (held : Option ℕ) (mutex : ℕ) (events : List Event) (e : Event
 holder_more held mutex [] e = refl
 holder_more held mutex (f ∷ events) e = holder_more (holder_next held mutex f) mutex events e
 
-some_of : (o : Option ℕ) → is_some o ≡ true → (x : ℕ) × (o ≡ Some x)
+pub some_of : (o : Option ℕ) → is_some o ≡ true → (x : ℕ) × (o ≡ Some x)
 some_of None is = cc
 some_of (Some x) is = (x, refl)
 

@@ -1,3 +1,4 @@
+pub mod Answering
 pub mod Clocks
 pub mod Handing
 pub mod Marking

@@ -4,8 +4,11 @@
 
 mod copy;
 mod hand;
-mod tables;
+mod happens;
 mod kinds;
 mod mutexes;
+mod tables;
 mod take;
+
+pub use happens::Happens;
 

@@ -19,7 +19,7 @@ use std::collections::HashMap;
 #[derive(Drop)]
 pub(crate) struct Kept {
     // How many Creates there were: the next one makes the thread after these.
-    created: u32,
+    pub(crate) created: u32,
     // The clock of each event. Number 0 is of no event, and the clocks of those to come are 0 everywhere.
     pub(crate) clocks: Vec<Clock>,
     // What an event takes over that reads this store, or that locks after this unlock.
@@ -32,7 +32,7 @@ pub(crate) struct Kept {
     read: Vec<Clock>,
     // The clock of each thread at its Ends.
     ended: Vec<Clock>,
-    mutexes: Mutexes,
+    pub(crate) mutexes: Mutexes,
 }
 
 // So many clocks, each 0 at each thread.
