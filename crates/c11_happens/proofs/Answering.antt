@@ -18,7 +18,7 @@ use Rattle.c11_events.proofs.Prefix.{load_less, store_more}
 use Rattle.c11_events.proofs.Rises.{hb_rises}
 use Rattle.c11_happens.specs.Covers.{UpTo, CoversExactly, IsOf, HasNoEvent, IsLastOf, IsCreateOf}
 use Rattle.c11_happens.specs.Marks.{Below, IsClockOf, Knows, own, start}
-use Rattle.c11_happens.specs.Noting.{row, Tables, is_load, IsReady}
+use Rattle.c11_happens.specs.Noting.{row, Contents, is_load, IsReady}
 use Rattle.c11_happens.specs.Kept.{IsKept}
 use Rattle.c11_happens.specs.Trace.{Trace, textless, textless_kind}
 use Rattle.c11_happens.proofs.Clocks.{up_to_up_to}
@@ -63,7 +63,7 @@ one_create : (events : List Event) (thread m c : ℕ) → IsCreateOf events thre
 one_create events thread m c is create = dite (ℕ_discrete m c) (λ (same : m ≡ c). same)
     (λ (other : m ≡ c → ⊥). dite (dec_lt m c) (λ (lt : m < c). absurd (create_grows events thread m c is create lt)) (λ (le : m < c → ⊥). absurd (create_grows events thread c m create is (omega arith))))
 
-module _ (threads room : ℕ) (events : List Event) (t : Tables) (kept : IsKept threads room events t) where
+module _ (threads room : ℕ) (events : List Event) (t : Contents) (kept : IsKept threads room events t) where
   pub ready : (e : Event) → ReadsEarlier (events ++ e ∷ []) → length events < room → e.thread < threads → e.number ≡ suc (length events) → IsReady t e
   ready e reads space thread numbered = record {
     number = omega (arith, kept.sized.clocks);

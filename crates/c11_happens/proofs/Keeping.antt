@@ -15,7 +15,7 @@ use Rattle.c11_events.proofs.Prefix.{event_less, store_less}
 use Rattle.c11_happens.specs.declared.mutexes.MutexState.{MutexState}
 use Rattle.c11_happens.specs.Covers.{IsOf, HasNoEvent}
 use Rattle.c11_happens.specs.Marks.{IsClockOf, Knows, own, Hands, Handed, ReadBy, IsFenceOf, IsEndOf, IsUnlockOf, IsUnlockUpTo}
-use Rattle.c11_happens.specs.Noting.{row, AreWide, Tables, joined_if, is_store, is_load, by_stored, by_unlocked, handed_on, raised, taken, own_clock, started, mutex_next, IsNoted}
+use Rattle.c11_happens.specs.Noting.{row, AreWide, Contents, joined_if, is_store, is_load, by_stored, by_unlocked, handed_on, raised, taken, own_clock, started, mutex_next, IsNoted}
 use Rattle.c11_happens.specs.Kept.{IsKept, AreSized, IsLastUnlock}
 use Rattle.c11_happens.proofs.Clocks.{clock_join, clock_same, clock_zero, clock_more}
 use Rattle.c11_happens.proofs.Marking.{clock_if, clock_at, clock_at_more, clock_read, clock_read_more, clock_own, clock_knows, Starts, clock_hands_more, clock_unlocks_more, HandsNew, clock_hands_new, created_next, positive, split_at, join_at, unlock_stores_nothing, store_unlocks_nothing, handed_below}
@@ -74,7 +74,7 @@ started_row known own_clock thread j = by_test (nat_lt thread (length known) && 
     by_test true is = joined_there (nat_eq j thread) (ltb-true thread (length known) (left _ _ is)) refl
     by_test false is = nothing (nat_eq j thread)
 
-module _ (threads room : ℕ) (events : List Event) (e : Event) (t u : Tables) (kept : IsKept threads room events t) (reads : ReadsEarlier (events ++ e ∷ []))
+module _ (threads room : ℕ) (events : List Event) (e : Event) (t u : Contents) (kept : IsKept threads room events t) (reads : ReadsEarlier (events ++ e ∷ []))
     (space : length events < room) (thread : e.thread < threads) (numbered : e.number ≡ suc (length events)) (noted : IsNoted t e u) where
   abbrev Clock : List ℕ → (ℕ → Type 0) → Type 0
   Clock c M = IsClockOf (events ++ e ∷ []) c M

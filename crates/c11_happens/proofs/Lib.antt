@@ -8,3 +8,4 @@ pub mod Keeping
 pub mod Opening
 pub mod Steps
 pub mod Taking
+pub mod Texts

@@ -6,7 +6,7 @@ use Rattle.c11_events.specs.Events.{At, event_at, stored_cell, loaded_cell, unlo
 use Rattle.c11_happens.specs.declared.mutexes.MutexState.{MutexState}
 use Rattle.c11_happens.specs.Covers.{IsOf}
 use Rattle.c11_happens.specs.Marks.{IsClockOf, Knows, own, start, ReadBy, IsFenceOf, IsEndOf, IsUnlockOf}
-use Rattle.c11_happens.specs.Noting.{row, AreWide, Tables}
+use Rattle.c11_happens.specs.Noting.{row, AreWide, Contents}
 use Rattle.c11_happens.specs.Kept.{AreSized, IsKept}
 use Rattle.c11_happens.proofs.Clocks.{clock_zero}
 
@@ -35,7 +35,7 @@ module _ (threads room : ℕ) where
   nothing_known thread m (own is) = nothing_at m (λ f. f.thread ≡ thread) is
   nothing_known thread m (start none is) = nothing_at m (λ f. is_create f.kind ≡ true) is.is
 
-  module _ (t : Tables) (created : t.created ≡ 0) (clocks : t.clocks ≡ replicate (room + 1) (replicate threads 0)) (passed : t.passed ≡ replicate (room + 1) (replicate threads 0))
+  module _ (t : Contents) (created : t.created ≡ 0) (clocks : t.clocks ≡ replicate (room + 1) (replicate threads 0)) (passed : t.passed ≡ replicate (room + 1) (replicate threads 0))
       (known : t.known ≡ replicate threads (replicate threads 0)) (fenced : t.fenced ≡ replicate threads (replicate threads 0)) (read : t.read ≡ replicate threads (replicate threads 0))
       (ended : t.ended ≡ replicate threads (replicate threads 0)) (mutexes : (mutex : ℕ) → t.mutexes mutex ≡ record { holder = None; last_unlock = 0 }) where
     pub kept_none : IsKept threads room [] t

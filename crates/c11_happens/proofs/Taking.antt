@@ -11,7 +11,7 @@ use Rattle.c11_events.proofs.DecideEvents.{at_below}
 use Rattle.c11_events.proofs.Prefix.{store_less}
 use Rattle.c11_happens.specs.Covers.{IsOf}
 use Rattle.c11_happens.specs.Marks.{IsClockOf, Knows, Hands, Handed, ReadBy, IsEndOf, IsUnlockOf, IsUnlockUpTo, TakesFromStore, TakesByFence, TakesFromUnlock, TakesFromEnd, Takes}
-use Rattle.c11_happens.specs.Noting.{row, AreWide, Tables, joined_if, after_store, after_fence, after_unlock, after_end, taken, raised, own_clock}
+use Rattle.c11_happens.specs.Noting.{row, AreWide, Contents, joined_if, after_store, after_fence, after_unlock, after_end, taken, raised, own_clock}
 use Rattle.c11_happens.specs.Kept.{IsKept, AreSized}
 use Rattle.c11_happens.proofs.Clocks.{clock_join, clock_same, clock_zero, clock_new}
 use Rattle.c11_happens.proofs.Marking.{clock_if, acquire_loads, positive}
@@ -26,7 +26,7 @@ of_none : (h : Option ℕ) → h ≡ None → (if is_some h then false else true
 of_none None is = refl
 of_none (Some x) is = cc
 
-module _ (threads room : ℕ) (events : List Event) (e : Event) (t : Tables) (kept : IsKept threads room events t) (reads : ReadsEarlier (events ++ e ∷ []))
+module _ (threads room : ℕ) (events : List Event) (e : Event) (t : Contents) (kept : IsKept threads room events t) (reads : ReadsEarlier (events ++ e ∷ []))
     (space : length events < room) (thread : e.thread < threads) (numbered : e.number ≡ suc (length events)) where
   -- a load's store is kept
   pub from_earlier : (cell : ℕ) → loaded_cell e.kind ≡ Some cell → e.from ≤ length events

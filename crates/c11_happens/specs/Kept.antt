@@ -4,14 +4,14 @@ use Rattle.c11_events.specs.declared.event.Event.{Event}
 use Rattle.c11_events.specs.Events.{event_at, IsStore, ReadsEarlier}
 use Rattle.c11_events.specs.Threads.{holder, created}
 use Rattle.c11_happens.specs.Marks.{IsClockOf, Knows, Hands, ReadBy, IsFenceOf, IsEndOf, IsUnlockOf, IsUnlockUpTo}
-use Rattle.c11_happens.specs.Noting.{row, AreWide, Tables}
+use Rattle.c11_happens.specs.Noting.{row, AreWide, Contents}
 
 -- x is the last Unlock of the mutex, or 0 where there is none
 abbrev pub IsLastUnlock : List Event → ℕ → ℕ → Type 0
 IsLastUnlock events mutex x = ((x ≡ 0) ⊎ IsUnlockOf events mutex x) × ((m : ℕ) → IsUnlockOf events mutex m → m ≤ x)
 
 -- the tables have these sizes: a clock for each number of an event from 0 on, and one for each thread
-pub record AreSized (threads room : ℕ) (t : Tables) : Type 0 where
+pub record AreSized (threads room : ℕ) (t : Contents) : Type 0 where
   pub clocks : length t.clocks ≡ room + 1
   pub passed : length t.passed ≡ room + 1
   pub known : length t.known ≡ threads
@@ -25,7 +25,7 @@ pub record AreSized (threads room : ℕ) (t : Tables) : Type 0 where
   pub wide_read : AreWide threads t.read
   pub wide_ended : AreWide threads t.ended
 
-pub record IsKept (threads room : ℕ) (events : List Event) (t : Tables) : Type 0 where
+pub record IsKept (threads room : ℕ) (events : List Event) (t : Contents) : Type 0 where
   pub sized : AreSized threads room t
   pub reads : ReadsEarlier events
   pub fits : length events ≤ room

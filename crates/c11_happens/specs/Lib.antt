@@ -1,6 +1,7 @@
 pub mod Covers
 pub mod Kept
 pub mod Kinds
+pub mod Laws
 pub mod Marks
 pub mod Mutexes
 pub mod Noting

@@ -18,7 +18,7 @@ abbrev pub joined_if : Bool → List ℕ → List ℕ → List ℕ
 joined_if true clock other = joined clock other
 joined_if false clock other = clock
 
-pub record Tables : Type 0 where
+pub record Contents : Type 0 where
   pub created : ℕ
   pub clocks : List (List ℕ)
   pub passed : List (List ℕ)
@@ -44,17 +44,17 @@ abbrev pub after_end : Option ℕ → List (List ℕ) → List ℕ → List ℕ
 after_end None ended clock = clock
 after_end (Some thread) ended clock = joined_if (nat_lt thread (length ended)) clock (row ended thread)
 
-abbrev pub takes : Event → List (List ℕ) → List (List ℕ) → List (List ℕ) → List (List ℕ) → (ℕ → MutexState) → List ℕ
-takes e known passed read ended mutexes = after_end (joined_thread e.kind) ended (after_unlock (locked_mutex e.kind) mutexes passed (after_fence e read (after_store e passed (row known e.thread))))
+abbrev pub after_taking : Event → List (List ℕ) → List (List ℕ) → List (List ℕ) → List (List ℕ) → (ℕ → MutexState) → List ℕ
+after_taking e known passed read ended mutexes = after_end (joined_thread e.kind) ended (after_unlock (locked_mutex e.kind) mutexes passed (after_fence e read (after_store e passed (row known e.thread))))
 
-abbrev pub taken : Tables → Event → List ℕ
-taken t e = takes e t.known t.passed t.read t.ended t.mutexes
+abbrev pub taken : Contents → Event → List ℕ
+taken t e = after_taking e t.known t.passed t.read t.ended t.mutexes
 
 -- the event's own clock
 abbrev pub raised : List ℕ → ℕ → ℕ → List ℕ
 raised clock thread number = slice_set clock thread (max (slice_index clock thread) number)
 
-abbrev pub own_clock : Tables → Event → List ℕ
+abbrev pub own_clock : Contents → Event → List ℕ
 own_clock t e = joined (row t.clocks e.number) (raised (taken t e) e.thread e.number)
 
 -- what those that read the event, or lock after it, take over
@@ -72,7 +72,7 @@ abbrev pub by_unlocked : Option ℕ → (ℕ → MutexState) → List (List ℕ)
 by_unlocked None mutexes passed own clock = clock
 by_unlocked (Some mutex) mutexes passed own clock = joined (joined clock own) (row passed (mutexes mutex).last_unlock)
 
-abbrev pub handed_on : Tables → Event → List ℕ → List ℕ
+abbrev pub handed_on : Contents → Event → List ℕ → List ℕ
 handed_on t e own = by_unlocked (unlocked_mutex e.kind) t.mutexes t.passed own (by_stored e t.passed t.fenced own (row t.passed e.number))
 
 -- a created thread that has done nothing yet knows what its Create knows
@@ -84,7 +84,7 @@ abbrev pub mutex_next : ℕ → MutexState → Event → MutexState
 mutex_next mutex state e = record { holder = holder_next state.holder mutex e; last_unlock = if option_is (unlocked_mutex e.kind) mutex then e.number else state.last_unlock }
 
 -- the tables after the event
-pub record IsNoted (t : Tables) (e : Event) (u : Tables) : Type 0 where
+pub record IsNoted (t : Contents) (e : Event) (u : Contents) : Type 0 where
   pub created : u.created ≡ t.created + (if is_create e.kind then 1 else 0)
   pub clocks : u.clocks ≡ slice_set t.clocks e.number (own_clock t e)
   pub passed : u.passed ≡ slice_set t.passed e.number (handed_on t e (own_clock t e))
@@ -96,7 +96,7 @@ pub record IsNoted (t : Tables) (e : Event) (u : Tables) : Type 0 where
   pub mutexes : (mutex : ℕ) → u.mutexes mutex ≡ mutex_next mutex (t.mutexes mutex) e
 
 -- the event has its places in the tables
-pub record IsReady (t : Tables) (e : Event) : Type 0 where
+pub record IsReady (t : Contents) (e : Event) : Type 0 where
   pub number : e.number < length t.clocks
   pub number_passed : e.number < length t.passed
   pub thread : e.thread < length t.known

@@ -5,7 +5,7 @@ ghost use Rattle.c11_happens.specs.Covers.{UpTo, CoversExactly, HasNoEvent, IsLa
 ghost use Rattle.c11_happens.specs.Trace.{textless};
 
 use crate::copy::textless;
-use crate::tables::Kept;
+use crate::tables::Tables;
 use c11_clock::Clock;
 use c11_events::Event;
 use c11_num::NoMemory;
@@ -20,20 +20,20 @@ pub struct Happens {
     threads: u32,
     room: u32,
     events: Vec<Event>,
-    kept: Kept,
+    tables: Tables,
 }
 
 impl Model for Happens {
     ghost use Rattle.std.specs.Prelude.{vec_capacity};
     ghost use Rattle.std.specs.HashMap.{spare};
     ghost use Rattle.c11_happens.specs.Trace.{Trace};
-    ghost use Rattle.c11_happens.specs.Sound.{IsSound, tables_of};
+    ghost use Rattle.c11_happens.specs.Sound.{IsSound, contents};
 
     ghost Value = { Trace };
 
     ghost view = { λ h. record { threads = h.threads; room = h.room; events = h.events.items } };
 
-    ghost invariant = { λ h. IsSound h.threads h.room h.events.items (vec_capacity h.events) (spare h.kept.mutexes) (tables_of h.kept) };
+    ghost invariant = { λ h. IsSound h.threads h.room h.events.items (vec_capacity h.events) (spare h.tables.mutexes) (contents h.tables) };
 }
 
 impl Happens {
@@ -42,12 +42,12 @@ impl Happens {
         ensures { IfOk result (λ happens. happens ≡ record { threads = threads; room = events; events = [] }) }
     {
         let list = Vec::with_capacity(alloc, events as usize)?;
-        let kept = Kept::open(alloc, threads, events)?;
+        let tables = Tables::open(alloc, threads, events)?;
         Ok(Happens {
             threads,
             room: events,
             events: list,
-            kept,
+            tables,
         })
     }
 
@@ -62,7 +62,7 @@ impl Happens {
         ensures { self.new ≡ record self.old { events = self.old.events ++ textless event.now ∷ [] } }
     {
         let event = textless(*self.events.allocator(), event);
-        self.kept.note(&event);
+        self.tables.note(&event);
         match self.events.push(event) {
             Ok(()) => {}
             Err(_) => unreachable!(),
@@ -78,7 +78,7 @@ impl Happens {
         ensures { IsTrue result ↔ HappensBefore self.now.events a b }
     {
         let thread = self.events[a as usize - 1].thread;
-        a != b && self.kept.clocks[b as usize].covers(thread, a)
+        a != b && self.tables.clocks[b as usize].covers(thread, a)
     }
 
     /// The clock of the thread now, with a place for each thread.
@@ -92,6 +92,6 @@ impl Happens {
         ensures started { (c : ℕ) → HasNoEvent self.now.events thread → IsCreateOf self.now.events thread c → CoversExactly self.now.events result.now (UpTo self.now.events c) }
         ensures unborn { HasNoEvent self.now.events thread → ((c : ℕ) → IsCreateOf self.now.events thread c → ⊥) → CoversExactly self.now.events result.now (λ a. ⊥) }
     {
-        &self.kept.known[thread as usize]
+        &self.tables.known[thread as usize]
     }
 }

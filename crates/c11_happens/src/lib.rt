@@ -6,6 +6,7 @@ mod copy;
 mod hand;
 mod happens;
 mod kinds;
+pub mod laws;
 mod mutexes;
 mod tables;
 mod take;

@@ -3,7 +3,7 @@ ghost use Rattle.std.specs.Prelude.{◌≡◌, ◌+◌, ◌<◌, ◌≤◌, ◌^
 ghost use Rattle.std.specs.HashMap.{spare};
 ghost use Rattle.c11_happens.specs.Noting.{row, AreWide, joined_if, is_load, IsReady, IsNoted};
 ghost use Rattle.c11_happens.specs.Kept.{IsKept};
-ghost use Rattle.c11_happens.specs.Sound.{tables_of};
+ghost use Rattle.c11_happens.specs.Sound.{contents};
 
 use crate::hand::{hand_on, keep_read, note_create};
 use crate::kinds;
@@ -17,7 +17,7 @@ use std::collections::HashMap;
 
 /// The clocks of events, by their numbers, and those of threads.
 #[derive(Drop)]
-pub(crate) struct Kept {
+pub(crate) struct Tables {
     // How many Creates there were: the next one makes the thread after these.
     pub(crate) created: u32,
     // The clock of each event. Number 0 is of no event, and the clocks of those to come are 0 everywhere.
@@ -69,15 +69,15 @@ fn note_own(table: &mut [Clock], condition: bool, thread: u32, own: &Clock)
     join_if(condition, &mut table[thread as usize], own);
 }
 
-impl Kept {
+impl Tables {
     /// No event yet, with room for so many.
-    pub(crate) fn open(alloc: Global, threads: u32, events: u32) -> Result<Kept, NoMemory>
-        ensures kept { IfOk result (λ kept. IsKept threads events [] (tables_of kept)) }
+    pub(crate) fn open(alloc: Global, threads: u32, events: u32) -> Result<Tables, NoMemory>
+        ensures kept { IfOk result (λ kept. IsKept threads events [] (contents kept)) }
         ensures room { IfOk result (λ kept. events ≤ spare kept.mutexes) }
     {
         let rows = events as usize + 1;
         let count = threads as usize;
-        Ok(Kept {
+        Ok(Tables {
             created: 0,
             clocks: blank_clocks(alloc, rows, threads)?,
             passed: blank_clocks(alloc, rows, threads)?,
@@ -91,10 +91,10 @@ impl Kept {
 
     /// Brings the clocks up to date with the event. There is room for it.
     pub(crate) fn note(&mut self, event: &Event)
-        requires ready { IsReady (tables_of self.old) event.now }
+        requires ready { IsReady (contents self.old) event.now }
         requires created { self.old.created + 1 < 2 ^ 32 }
         requires room { 0 < spare self.old.mutexes }
-        ensures noted { IsNoted (tables_of self.old) event.now (tables_of self.new) }
+        ensures noted { IsNoted (contents self.old) event.now (contents self.new) }
         ensures room { spare self.old.mutexes ≤ spare self.new.mutexes + 1 }
     {
         note_clock(

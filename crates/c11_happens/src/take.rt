@@ -3,7 +3,7 @@
 
 ghost use Rattle.std.specs.Prelude.{◌≡◌, ◌<◌, ℕ, true, length, slice_set};
 ghost use Rattle.c11_events.specs.Events.{is_acquire_load, is_acquire_fence, locked_mutex, joined_thread};
-ghost use Rattle.c11_happens.specs.Noting.{row, AreWide, joined_if, after_store, after_fence, after_unlock, after_end, takes, raised};
+ghost use Rattle.c11_happens.specs.Noting.{row, AreWide, joined_if, after_store, after_fence, after_unlock, after_end, after_taking, raised};
 ghost use Rattle.c11_clock.specs.Clocks.{joined};
 ghost use Rattle.c11_happens.specs.Mutexes.{state_in};
 
@@ -124,8 +124,8 @@ pub(crate) fn note_clock(
     requires wide_passed { AreWide (length known.old) passed.now }
     requires wide_read { AreWide (length known.old) read.now }
     requires wide_ended { AreWide (length known.old) ended.now }
-    ensures known { known.new ≡ slice_set known.old event.now.thread (raised (takes event.now known.old passed.now read.now ended.now (state_in mutexes.now)) event.now.thread event.now.number) }
-    ensures clocks { clocks.new ≡ slice_set clocks.old event.now.number (joined (row clocks.old event.now.number) (raised (takes event.now known.old passed.now read.now ended.now (state_in mutexes.now)) event.now.thread event.now.number)) }
+    ensures known { known.new ≡ slice_set known.old event.now.thread (raised (after_taking event.now known.old passed.now read.now ended.now (state_in mutexes.now)) event.now.thread event.now.number) }
+    ensures clocks { clocks.new ≡ slice_set clocks.old event.now.number (joined (row clocks.old event.now.number) (raised (after_taking event.now known.old passed.now read.now ended.now (state_in mutexes.now)) event.now.thread event.now.number)) }
     ensures own { length (row clocks.new event.now.number) ≡ length known.old }
     ensures wide { AreWide (length known.old) known.new }
 {
