@@ -4,6 +4,9 @@ ghost use Rattle.c11_events.specs.HappensBefore.{HappensBefore};
 ghost use Rattle.c11_happens.specs.Covers.{UpTo, CoversExactly, HasNoEvent, IsLastOf, IsCreateOf};
 ghost use Rattle.c11_happens.specs.Trace.{textless};
 
+#[cfg(test)]
+mod tests;
+
 use crate::copy::textless;
 use crate::tables::Tables;
 use c11_clock::Clock;
