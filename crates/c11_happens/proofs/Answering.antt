@@ -1,5 +1,5 @@
 -- What the tables answer, and that an event may be noted.
-use Rattle.std.proofs.Common.{◌≡◌, ℕ, zero, suc, ◌+◌, ◌-◌, ◌<◌, ◌≤◌, Bool, true, false, List, [], ◌∷◌, ◌++◌, Option, Some, None, length, take, cond, slice_get, slice_index, slice_index_or, add-one, refl, sym, ap, ◌∙◌, subst, arith, ◌⊎◌, inl, inr}
+use Rattle.std.proofs.Common.{◌≡◌, ℕ, zero, suc, ◌+◌, ◌-◌, ◌<◌, ◌≤◌, true, List, [], ◌∷◌, ◌++◌, Some, length, take, cond, slice_get, slice_index, slice_index_or, add-one, refl, sym, ap, ◌∙◌, subst, arith, inl, inr}
 use Rattle.std.proofs.lemmas.List.Sums.{count_by-le-length, count_by_more_yes, sum_by-take-le}
 use Rattle.std.proofs.lemmas.List.{take-take}
 use Rattle.std.proofs.lemmas.Option.{get_or_from_slice_get, slice_get-get_or}
@@ -9,7 +9,7 @@ use Rattle.c11_events.specs.declared.event.Event.{Event}
 use Rattle.c11_events.specs.declared.event.EventKind.{EventKind}
 use Rattle.c11_events.specs.declared.event.EventKind.TheVariants.{Out}
 use Rattle.c11_events.specs.Closure.{one}
-use Rattle.c11_events.specs.Events.{At, event_at, IsStore, IsLoad, ReadsEarlier, stored_cell, loaded_cell, is_acquire_load, is_create}
+use Rattle.c11_events.specs.Events.{event_at, IsStore, ReadsEarlier, stored_cell, loaded_cell, is_create}
 use Rattle.c11_events.specs.HappensBefore.{HappensBefore}
 use Rattle.c11_events.specs.Threads.{created}
 use Rattle.c11_events.proofs.DecideEvents.{at_below}
@@ -17,8 +17,8 @@ use Rattle.c11_events.proofs.Longer.{old_or_new}
 use Rattle.c11_events.proofs.Prefix.{load_less, store_more}
 use Rattle.c11_events.proofs.Rises.{hb_rises}
 use Rattle.c11_happens.specs.Covers.{UpTo, CoversExactly, IsOf, HasNoEvent, IsLastOf, IsCreateOf}
-use Rattle.c11_happens.specs.Marks.{Below, IsClockOf, Knows, own, start}
-use Rattle.c11_happens.specs.Noting.{row, Contents, is_load, IsReady}
+use Rattle.c11_happens.specs.Marks.{Knows, own, start}
+use Rattle.c11_happens.specs.Noting.{row, Contents, IsReady}
 use Rattle.c11_happens.specs.Kept.{IsKept}
 use Rattle.c11_happens.specs.Trace.{Trace, textless, textless_kind}
 use Rattle.c11_happens.proofs.Clocks.{up_to_up_to}
@@ -33,7 +33,7 @@ loaded_same _ = refl
 -- the list with the event reads earlier stores, where the event does
 pub reads_next : (events : List Event) (e : Event) → ReadsEarlier events → ((cell : ℕ) → loaded_cell e.kind ≡ Some cell → IsStore events cell e.from) → ReadsEarlier (events ++ e ∷ [])
 reads_next events e reads here cell l x load = elim (old_or_new events e l (λ f. (loaded_cell f.kind ≡ Some cell) × (f.from ≡ x)) load) [
-  inl le ↦ let old = reads cell l x (load_less events (e ∷ []) cell l x le load) in (store_more events (e ∷ []) cell x old.0, old.1)
+  | inl le ↦ let old = reads cell l x (load_less events (e ∷ []) cell l x le load) in (store_more events (e ∷ []) cell x old.0, old.1)
   | inr new ↦
       let is = subst (λ (z : ℕ). IsStore events cell z) new.1.1 (here cell new.1.0) in
       let lt = at_below events x (λ f. stored_cell f.kind ≡ Some cell) is in

@@ -1,5 +1,5 @@
 -- Clocks and their marks.
-use Rattle.std.proofs.Common.{◌≡◌, ℕ, zero, suc, ◌+◌, ◌<◌, ◌≤◌, Bool, true, false, List, [], ◌∷◌, ◌++◌, Some, None, length, max, slice_index, slice_set, replicate, refl, sym, ap, ◌∙◌, subst, arith, ◌⊎◌, inl, inr}
+use Rattle.std.proofs.Common.{◌≡◌, ℕ, zero, suc, ◌<◌, ◌≤◌, List, [], ◌∷◌, ◌++◌, Some, None, length, max, slice_index, slice_set, replicate, refl, sym, ◌∙◌, subst, arith, ◌⊎◌, inl, inr}
 use Rattle.std.proofs.lemmas.List.{get_or-set_same, get_or-set_other}
 use native.Mathlib.Decide.{ℕ_discrete, dec_le}
 use mathlib.Core.Logic.{dite, ◌↔◌}
@@ -7,10 +7,9 @@ use Rattle.c11_clock.specs.Clocks.{joined}
 use Rattle.c11_clock.proofs.Joined.{joined-each}
 use Rattle.c11_events.specs.declared.event.Event.{Event}
 use Rattle.c11_events.specs.Closure.{one, join}
-use Rattle.c11_events.specs.Events.{At, event_at, ReadsEarlier}
+use Rattle.c11_events.specs.Events.{event_at, ReadsEarlier}
 use Rattle.c11_events.specs.HappensBefore.{HappensBefore, DirectlyBefore}
-use Rattle.c11_events.proofs.Basics.{at_same}
-use Rattle.c11_events.proofs.DecideEvents.{at_below, event_below}
+use Rattle.c11_events.proofs.DecideEvents.{at_below}
 use Rattle.c11_events.proofs.Longer.{new_is, old_or_new}
 use Rattle.c11_events.proofs.Newest.{happens_before_new}
 use Rattle.c11_events.proofs.Prefix.{event_less, same_more, hb_more, hb_less}
@@ -61,8 +60,10 @@ module _ (events : List Event) where
   pub clock_below : (c : List ℕ) (M N : ℕ → Type 0) → ((m : ℕ) → M m → Below events N m) → ((m : ℕ) → N m → Below events M m) → IsClockOf events c M → IsClockOf events c N
   clock_below c M N to from k = record {
     tight = k.tight;
-    exact = λ a e at. (λ le. let b = (k.exact a e at).0 le in let t = to b.0 b.1.0 in (t.0, (t.1.0, up_to_up_to events a b.0 t.0 b.1.1 t.1.1)),
-        λ b. let t = from b.0 b.1.0 in (k.exact a e at).1 (t.0, (t.1.0, up_to_up_to events a b.0 t.0 b.1.1 t.1.1)));
+    exact = λ a e at. (
+      λ le. let b = (k.exact a e at).0 le in let t = to b.0 b.1.0 in (t.0, (t.1.0, up_to_up_to events a b.0 t.0 b.1.1 t.1.1)),
+      λ b. let t = from b.0 b.1.0 in (k.exact a e at).1 (t.0, (t.1.0, up_to_up_to events a b.0 t.0 b.1.1 t.1.1)),
+    );
   }
 
   pub clock_same : (c : List ℕ) (M N : ℕ → Type 0) → ((m : ℕ) → M m → N m) → ((m : ℕ) → N m → M m) → IsClockOf events c M → IsClockOf events c N
@@ -92,7 +93,7 @@ module _ (events : List Event) (e : Event) (reads : ReadsEarlier (events ++ e �
   clock_more c M below k = record {
     tight = tight_more c k.tight;
     exact = λ a f at. elim (is_old_or_new a f at) [
-      inl le ↦ (
+      | inl le ↦ (
         λ less. let b = (k.exact a f (event_less events (e ∷ []) a f le at)).0 less in (b.0, (b.1.0, up_to_more a b.0 b.1.1)),
         λ b. (k.exact a f (event_less events (e ∷ []) a f le at)).1 (b.0, (b.1.0, up_to_less a b.0 (below b.0 b.1.0) b.1.1)),
       )

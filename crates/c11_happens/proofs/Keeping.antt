@@ -1,27 +1,27 @@
 -- The tables are kept with a new event.
-use Rattle.std.proofs.Common.{◌≡◌, ℕ, zero, suc, ◌+◌, ◌<◌, ◌≤◌, Bool, true, false, ◌&&◌, cond, List, [], ◌∷◌, ◌++◌, Option, Some, None, length, nat_eq, nat_lt, slice_index, slice_set, replicate, refl, sym, ap, ◌∙◌, subst, arith, ◌⊎◌, inl, inr}
+use Rattle.std.proofs.Common.{◌≡◌, ℕ, suc, ◌+◌, ◌<◌, ◌≤◌, Bool, true, false, ◌&&◌, cond, List, [], ◌∷◌, ◌++◌, Option, Some, None, length, nat_eq, nat_lt, slice_index, slice_set, replicate, refl, sym, ap, ◌∙◌, subst, arith, ◌⊎◌, inl, inr}
 use Rattle.std.specs.Prelude.{is_some, if◌then◌else◌}
 use Rattle.std.proofs.lemmas.Bool.{eqb-true, eq-eqb, lt-ltb, ltb-true}
 use Rattle.std.proofs.lemmas.List.{length-append}
-use native.Mathlib.Decide.{ℕ_discrete, dec_le}
+use native.Mathlib.Decide.{ℕ_discrete}
 use mathlib.Core.Logic.{dite}
 use Rattle.c11_clock.specs.Clocks.{joined}
 use Rattle.c11_events.specs.declared.event.Event.{Event}
 use Rattle.c11_events.specs.Events.{At, event_at, IsStore, ReadsEarlier, stored_cell, loaded_cell, is_release_store, is_release_fence, unlocked_mutex, is_create, is_end}
-use Rattle.c11_events.specs.Threads.{holder, holder_from, holder_next, created, option_is}
+use Rattle.c11_events.specs.Threads.{holder, holder_from, holder_next, option_is}
 use Rattle.c11_events.proofs.DecideEvents.{at_below, event_below}
 use Rattle.c11_events.proofs.Longer.{old_or_new}
 use Rattle.c11_events.proofs.Prefix.{event_less, store_less}
 use Rattle.c11_happens.specs.declared.mutexes.MutexState.{MutexState}
-use Rattle.c11_happens.specs.Covers.{IsOf, HasNoEvent}
+use Rattle.c11_happens.specs.Covers.{HasNoEvent}
 use Rattle.c11_happens.specs.Marks.{IsClockOf, Knows, own, Hands, Handed, ReadBy, IsFenceOf, IsEndOf, IsUnlockOf, IsUnlockUpTo}
-use Rattle.c11_happens.specs.Noting.{row, AreWide, Contents, joined_if, is_store, is_load, by_stored, by_unlocked, handed_on, raised, taken, own_clock, started, mutex_next, IsNoted}
+use Rattle.c11_happens.specs.Noting.{row, AreWide, Contents, joined_if, is_store, is_load, by_stored, by_unlocked, handed_on, raised, taken, own_clock, started, IsNoted}
 use Rattle.c11_happens.specs.Kept.{IsKept, AreSized, IsLastUnlock}
 use Rattle.c11_happens.proofs.Clocks.{clock_join, clock_same, clock_zero, clock_more}
 use Rattle.c11_happens.proofs.Marking.{clock_if, clock_at, clock_at_more, clock_read, clock_read_more, clock_own, clock_knows, Starts, clock_hands_more, clock_unlocks_more, HandsNew, clock_hands_new, created_next, positive, split_at, join_at, unlock_stores_nothing, store_unlocks_nothing, handed_below}
 use Rattle.c11_happens.proofs.Places.{length_joined}
 use Rattle.c11_happens.proofs.Rows.{row_at, row_else, row_set, wide_set, set_length}
-use Rattle.c11_happens.proofs.Steps.{of_new, at_new, old, more, below}
+use Rattle.c11_happens.proofs.Steps.{of_new, old, more, below}
 use Rattle.c11_happens.proofs.Taking.{from_earlier, size_if, handed_clock, last_clock, last_within, raised_clock, size_raised, own_is, size_own}
 
 holder_more : (held : Option ℕ) (mutex : ℕ) (events : List Event) (e : Event) → holder_from held mutex (events ++ e ∷ []) ≡ holder_next (holder_from held mutex events) mutex e
@@ -101,7 +101,7 @@ module _ (threads room : ℕ) (events : List Event) (e : Event) (t u : Contents)
       (row_set (λ c. Clock c (λ m. m ≡ b)) t.clocks e.number new_clock b (omega (arith, kept.sized.clocks))
       (λ same. clock_same (events ++ e ∷ []) new_clock (λ m. m ≡ suc (length events)) (λ m. m ≡ b) (λ m is. is ∙ sym (same ∙ numbered)) (λ m is. is ∙ (same ∙ numbered)) is_new)
       (λ other. let le : b ≤ length events = omega (arith, event_below (events ++ e ∷ []) b f at, length-append events (e ∷ [])) in
-          clock_more events e reads (row t.clocks b) (λ m. m ≡ b) (λ m is. omega arith) (kept.clocks b f (event_less events (e ∷ []) b f le at))))
+      clock_more events e reads (row t.clocks b) (λ m. m ≡ b) (λ m is. omega arith) (kept.clocks b f (event_less events (e ∷ []) b f le at))))
 
   at_end : (x : ℕ) (Q : Event → Type 0) → At (events ++ e ∷ []) x Q → (x ≡ e.number → ⊥) → x ≤ length events
   at_end x Q is other = omega (arith, at_below (events ++ e ∷ []) x Q is, length-append events (e ∷ []))
@@ -122,7 +122,7 @@ module _ (threads room : ℕ) (events : List Event) (e : Event) (t u : Contents)
       (λ m _ f. f) (λ m f. (is, f)))
       (λ _. is_new) (λ m r same. (r, same)) (λ m p. p))
       (λ two. let loads = some_of (loaded_cell e.kind) (right (is_store e) (is_load e) two) in
-          clock_more events e reads (row t.passed e.from) (Handed events e) (handed_below events e reads) (handed_clock threads room events e t kept reads space thread numbered loads.0 loads.1))
+      clock_more events e reads (row t.passed e.from) (Handed events e) (handed_below events e reads) (handed_clock threads room events e t kept reads space thread numbered loads.0 loads.1))
       (λ m _ h. h) (λ m h. (both (is_store e) (is_load e) is (ap (λ (o : Option ℕ). is_some o) h.loads), h))
 
   handed_store : (cell : ℕ) → stored_cell e.kind ≡ Some cell → Clock (handed_on t e new_clock) (Hands (events ++ e ∷ []) cell (suc (length events)))
@@ -142,7 +142,7 @@ module _ (threads room : ℕ) (events : List Event) (e : Event) (t u : Contents)
       (clock_join (events ++ e ∷ []) _ (row t.passed (t.mutexes mutex).last_unlock) (λ m. ⊥ ⊎ (m ≡ suc (length events))) (IsUnlockOf events mutex)
       (clock_join (events ++ e ∷ []) (row t.passed e.number) new_clock (λ m. ⊥) (λ m. m ≡ suc (length events)) (zero_is (λ m. ⊥) (λ m none. none)) is_new)
       (clock_more events e reads (row t.passed (t.mutexes mutex).last_unlock) (IsUnlockOf events mutex) (λ m is. below events e m (λ f. unlocked_mutex f.kind ≡ Some mutex) is)
-          (last_clock threads room events e t kept reads space thread numbered mutex)))))
+      (last_clock threads room events e t kept reads space thread numbered mutex)))))
     where
       to : (m : ℕ) → (⊥ ⊎ (m ≡ suc (length events))) ⊎ IsUnlockOf events mutex m → IsUnlockUpTo (events ++ e ∷ []) mutex (suc (length events)) m
       to m (inl (inl none)) = absurd none
@@ -157,7 +157,7 @@ module _ (threads room : ℕ) (events : List Event) (e : Event) (t u : Contents)
   stores_next cell x is = subst (λ (table : List (List ℕ)). Clock (row table x) (Hands (events ++ e ∷ []) cell x)) (sym noted.passed)
       (row_set (λ c. Clock c (Hands (events ++ e ∷ []) cell x)) t.passed e.number (handed_on t e new_clock) x (omega (arith, kept.sized.passed))
       (λ same. subst (λ (z : ℕ). Clock (handed_on t e new_clock) (Hands (events ++ e ∷ []) cell z)) (sym (same ∙ numbered))
-          (handed_store cell (of_new events e (λ f. stored_cell f.kind ≡ Some cell) (subst (λ (z : ℕ). IsStore (events ++ e ∷ []) cell z) (same ∙ numbered) is))))
+      (handed_store cell (of_new events e (λ f. stored_cell f.kind ≡ Some cell) (subst (λ (z : ℕ). IsStore (events ++ e ∷ []) cell z) (same ∙ numbered) is))))
       (λ other. let le = at_end x (λ f. stored_cell f.kind ≡ Some cell) is other in clock_hands_more events e reads cell x (row t.passed x) le (kept.stores cell x (store_less events (e ∷ []) cell x le is))))
 
   unlocks_next : (mutex x : ℕ) → IsUnlockOf (events ++ e ∷ []) mutex x → Clock (row u.passed x) (IsUnlockUpTo (events ++ e ∷ []) mutex x)
@@ -165,9 +165,9 @@ module _ (threads room : ℕ) (events : List Event) (e : Event) (t u : Contents)
   unlocks_next mutex x is = subst (λ (table : List (List ℕ)). Clock (row table x) (IsUnlockUpTo (events ++ e ∷ []) mutex x)) (sym noted.passed)
       (row_set (λ c. Clock c (IsUnlockUpTo (events ++ e ∷ []) mutex x)) t.passed e.number (handed_on t e new_clock) x (omega (arith, kept.sized.passed))
       (λ same. subst (λ (z : ℕ). Clock (handed_on t e new_clock) (IsUnlockUpTo (events ++ e ∷ []) mutex z)) (sym (same ∙ numbered))
-          (handed_unlock mutex (of_new events e (λ f. unlocked_mutex f.kind ≡ Some mutex) (subst (λ (z : ℕ). IsUnlockOf (events ++ e ∷ []) mutex z) (same ∙ numbered) is))))
+      (handed_unlock mutex (of_new events e (λ f. unlocked_mutex f.kind ≡ Some mutex) (subst (λ (z : ℕ). IsUnlockOf (events ++ e ∷ []) mutex z) (same ∙ numbered) is))))
       (λ other. let le = at_end x (λ f. unlocked_mutex f.kind ≡ Some mutex) is other in
-          clock_unlocks_more events e reads mutex x (row t.passed x) le (kept.unlocks mutex x (old events e x (λ f. unlocked_mutex f.kind ≡ Some mutex) le is))))
+      clock_unlocks_more events e reads mutex x (row t.passed x) le (kept.unlocks mutex x (old events e x (λ f. unlocked_mutex f.kind ≡ Some mutex) le is))))
 
   -- the tables of threads
 
@@ -176,7 +176,7 @@ module _ (threads room : ℕ) (events : List Event) (e : Event) (t u : Contents)
   fenced_next v lt = subst (λ (table : List (List ℕ)). Clock (row table v) (IsFenceOf (events ++ e ∷ []) v)) (sym noted.fenced)
       (row_set (λ c. Clock c (IsFenceOf (events ++ e ∷ []) v)) t.fenced e.thread (joined_if (is_release_fence e.kind) (row t.fenced e.thread) new_clock) v (omega (arith, kept.sized.fenced))
       (λ same. clock_at events e reads (λ f. (is_release_fence f.kind ≡ true) × (f.thread ≡ v)) (is_release_fence e.kind) (row t.fenced e.thread) new_clock
-          (subst (λ (z : ℕ). IsClockOf events (row t.fenced z) (IsFenceOf events v)) same (kept.fenced v lt)) is_new (λ is. (is, sym same)) (λ p. p.0))
+      (subst (λ (z : ℕ). IsClockOf events (row t.fenced z) (IsFenceOf events v)) same (kept.fenced v lt)) is_new (λ is. (is, sym same)) (λ p. p.0))
       (λ other. clock_at_more events e reads (λ f. (is_release_fence f.kind ≡ true) × (f.thread ≡ v)) (row t.fenced v) (kept.fenced v lt) (λ p. other (sym p.1))))
 
   ended_next : (v : ℕ) → v < threads → Clock (row u.ended v) (IsEndOf (events ++ e ∷ []) v)
@@ -184,15 +184,15 @@ module _ (threads room : ℕ) (events : List Event) (e : Event) (t u : Contents)
   ended_next v lt = subst (λ (table : List (List ℕ)). Clock (row table v) (IsEndOf (events ++ e ∷ []) v)) (sym noted.ended)
       (row_set (λ c. Clock c (IsEndOf (events ++ e ∷ []) v)) t.ended e.thread (joined_if (is_end e.kind) (row t.ended e.thread) new_clock) v (omega (arith, kept.sized.ended))
       (λ same. clock_at events e reads (λ f. (is_end f.kind ≡ true) × (f.thread ≡ v)) (is_end e.kind) (row t.ended e.thread) new_clock
-          (subst (λ (z : ℕ). IsClockOf events (row t.ended z) (IsEndOf events v)) same (kept.ended v lt)) is_new (λ is. (is, sym same)) (λ p. p.0))
+      (subst (λ (z : ℕ). IsClockOf events (row t.ended z) (IsEndOf events v)) same (kept.ended v lt)) is_new (λ is. (is, sym same)) (λ p. p.0))
       (λ other. clock_at_more events e reads (λ f. (is_end f.kind ≡ true) × (f.thread ≡ v)) (row t.ended v) (kept.ended v lt) (λ p. other (sym p.1))))
 
   read_next : (v : ℕ) → v < threads → Clock (row u.read v) (ReadBy (events ++ e ∷ []) v)
   read_next v lt = subst (λ (table : List (List ℕ)). Clock (row table v) (ReadBy (events ++ e ∷ []) v)) (sym noted.read)
       (row_set (λ c. Clock c (ReadBy (events ++ e ∷ []) v)) t.read e.thread (joined_if (is_load e) (row t.read e.thread) (row t.passed e.from)) v (omega (arith, kept.sized.read))
       (λ same. subst (λ (z : ℕ). Clock (joined_if (is_load e) (row t.read e.thread) (row t.passed e.from)) (ReadBy (events ++ e ∷ []) z)) (sym same)
-          (clock_read events e reads (is_load e) (row t.read e.thread) (row t.passed e.from) (kept.read e.thread thread)
-          (λ is. let loads = some_of (loaded_cell e.kind) is in handed_clock threads room events e t kept reads space thread numbered loads.0 loads.1) (λ m h. ap (λ (o : Option ℕ). is_some o) h.loads)))
+      (clock_read events e reads (is_load e) (row t.read e.thread) (row t.passed e.from) (kept.read e.thread thread)
+      (λ is. let loads = some_of (loaded_cell e.kind) is in handed_clock threads room events e t kept reads space thread numbered loads.0 loads.1) (λ m h. ap (λ (o : Option ℕ). is_some o) h.loads)))
       (λ other. clock_read_more events e reads v (row t.read v) (λ same. other (sym same)) (kept.read v lt)))
 
   moved : List (List ℕ)
@@ -284,7 +284,7 @@ module _ (threads room : ℕ) (events : List Event) (e : Event) (t u : Contents)
       by_test false is = let last = kept.last_unlocks mutex in (
         elim last.0 [ inl zero' ↦ inl zero' | inr x ↦ inr (more events e (t.mutexes mutex).last_unlock (λ f. unlocked_mutex f.kind ≡ Some mutex) x) ],
         λ m x. elim (split_at events e (λ f. unlocked_mutex f.kind ≡ Some mutex) m x) [
-          inl y ↦ last.1 m y
+          | inl y ↦ last.1 m y
           | inr p ↦ absurd (let clash : false ≡ true = sym is ∙ some_option_is (unlocked_mutex e.kind) mutex p.1 in cc)
         ],
       )
@@ -359,7 +359,7 @@ module _ (threads room : ℕ) (events : List Event) (e : Event) (t u : Contents)
     reads = reads;
     fits = omega (arith, longer);
     within = λ a f at. elim (old_or_new events e a (λ g. g ≡ f) (record { event = f; is = at; holds = refl })) [
-      inl le ↦ kept.within a f (event_less events (e ∷ []) a f le at)
+      | inl le ↦ kept.within a f (event_less events (e ∷ []) a f le at)
       | inr new ↦ subst (λ (g : Event). g.thread < threads) new.1 thread
     ];
     count = noted.created ∙ (ap (λ (n : ℕ). n + cond (is_create e.kind) 1 0) kept.count ∙ sym (created_next events e));

@@ -1,6 +1,5 @@
 -- How the marks of the kept clocks change with a new event.
-use Rattle.std.proofs.Common.{◌≡◌, ℕ, zero, suc, ◌+◌, ◌<◌, ◌≤◌, Bool, true, false, ◌&&◌, cond, List, [], ◌∷◌, ◌++◌, Option, Some, None, length, take, slice_index, replicate, refl, sym, ap, zero-add, ◌∙◌, subst, arith, ◌⊎◌, inl, inr}
-use Rattle.std.specs.Prelude.{is_some}
+use Rattle.std.proofs.Common.{◌≡◌, ℕ, zero, suc, ◌+◌, ◌<◌, ◌≤◌, Bool, true, false, cond, List, [], ◌∷◌, ◌++◌, Some, None, length, take, refl, sym, ap, zero-add, ◌∙◌, subst, arith, ◌⊎◌, inl, inr}
 use Rattle.std.proofs.lemmas.List.{take_all, length-append}
 use Rattle.std.proofs.lemmas.List.Sums.{sum_by-append}
 use Rattle.c11_events.specs.declared.event.Event.{Event}
@@ -11,12 +10,12 @@ use Rattle.c11_events.specs.HappensBefore.{ProgramOrder, ReleaseSequence, here, 
 use Rattle.c11_events.specs.Threads.{created}
 use Rattle.c11_events.specs.Closure.{one}
 use Rattle.c11_events.proofs.Basics.{at_same}
-use Rattle.c11_events.proofs.Longer.{new_is, old_or_new}
-use Rattle.c11_events.proofs.Prefix.{reads_less, load_more, load_less, store_less, chain_more, chain_less, program_less}
-use Rattle.c11_happens.specs.Covers.{IsOf, HasNoEvent, IsCreateOf}
-use Rattle.c11_happens.specs.Marks.{Below, IsClockOf, Knows, own, start, Hands, by_store, by_fence, Handed, ReadBy, IsFenceOf, IsUnlockOf, IsUnlockUpTo}
+use Rattle.c11_events.proofs.Longer.{old_or_new}
+use Rattle.c11_events.proofs.Prefix.{reads_less, load_more, load_less}
+use Rattle.c11_happens.specs.Covers.{HasNoEvent}
+use Rattle.c11_happens.specs.Marks.{Below, IsClockOf, Knows, own, start, Hands, by_store, by_fence, Handed, ReadBy, IsFenceOf, IsUnlockUpTo}
 use Rattle.c11_happens.specs.Noting.{joined_if}
-use Rattle.c11_happens.proofs.Clocks.{clock_join, clock_below, clock_same, clock_zero, clock_more}
+use Rattle.c11_happens.proofs.Clocks.{clock_join, clock_below, clock_same, clock_more}
 use Rattle.c11_happens.proofs.Steps.{of_new, at_new, old, more, below, created_old, hands_rise, hands_more, hands_less, hands_read, new_load, order_new}
 
 -- a clock that is joined where a condition holds
@@ -109,7 +108,7 @@ module _ (events : List Event) (e : Event) where
 
     read_split : (u m : ℕ) → ReadBy (events ++ e ∷ []) u m → ReadBy events u m ⊎ ((e.thread ≡ u) × Handed events e m)
     read_split u m r = elim (old_or_new events e r.l (λ f. f.thread ≡ u) r.is) [
-      inl le ↦ inl (record {
+      | inl le ↦ inl (record {
         l = r.l;
         cell = r.cell;
         x = r.x;
@@ -155,7 +154,7 @@ module _ (events : List Event) (e : Event) where
       where
         from : (m : ℕ) → Knows (events ++ e ∷ []) e.thread m → Below (events ++ e ∷ []) (λ z. z ≡ suc (length events)) m
         from m (own is) = elim (split_at (λ f. f.thread ≡ e.thread) m is) [
-          inl t ↦ (suc (length events), (refl, inr (one (inl (order_new events e m t)))))
+          | inl t ↦ (suc (length events), (refl, inr (one (inl (order_new events e m t)))))
           | inr p ↦ (suc (length events), (refl, inl p.0))
         ]
         from m (start none is) = absurd (none (suc (length events)) (at_new events e (λ f. f.thread ≡ e.thread) refl))
@@ -193,7 +192,7 @@ module _ (events : List Event) (e : Event) where
       knows_split : (m : ℕ) → Knows (events ++ e ∷ []) u m → Knows events u m ⊎ ((m ≡ suc (length events)) × Starts u)
       knows_split m (own is) = elim (split_at (λ f. f.thread ≡ u) m is) [ inl t ↦ inl (own t) | inr p ↦ absurd (other p.1) ]
       knows_split m (start none is) = elim (split_at (λ f. is_create f.kind ≡ true) m is.is) [
-        inl t ↦ inl (start (none_less none) (record { is = t; creates = sym (created_old events e m (below events e m (λ f. is_create f.kind ≡ true) t)) ∙ is.creates }))
+        | inl t ↦ inl (start (none_less none) (record { is = t; creates = sym (created_old events e m (below events e m (λ f. is_create f.kind ≡ true) t)) ∙ is.creates }))
         | inr p ↦ inr (p.0, (p.1, (sym (one_more p.1) ∙ (sym created_new ∙ (ap (λ (z : ℕ). created (take z (events ++ e ∷ []))) (sym p.0) ∙ is.creates)), none_less none)))
       ]
 
@@ -263,11 +262,11 @@ module _ (events : List Event) (e : Event) where
 
       of_hands : (x m : ℕ) → x ≡ suc (length events) → Hands (events ++ e ∷ []) cell x m → HandsNew m
       of_hands x m new (by_store {n = n} is chain) = elim (last_step m n x chain) [
-        inl same ↦ inl (inr (of_new events e (λ g. is_release_store g.kind ≡ true) (subst (λ (z : ℕ). At (events ++ e ∷ []) z (λ g. is_release_store g.kind ≡ true)) (same ∙ new) is), same ∙ new))
+        | inl same ↦ inl (inr (of_new events e (λ g. is_release_store g.kind ≡ true) (subst (λ (z : ℕ). At (events ++ e ∷ []) z (λ g. is_release_store g.kind ≡ true)) (same ∙ new) is), same ∙ new))
         | inr t ↦ inr (rmw_handed m t.1.0 (subst (λ (z : ℕ). IsRmw (events ++ e ∷ []) cell z t.1.0) new t.1.1.1) (by_store is t.1.1.0))
       ]
       of_hands x m new (by_fence {s = s} {n = n} is order chain) = elim (last_step s n x chain) [
-        inl same ↦ inl (inl (inr (fence_of m s (same ∙ new) is order)))
+        | inl same ↦ inl (inl (inr (fence_of m s (same ∙ new) is order)))
         | inr t ↦ inr (rmw_handed m t.1.0 (subst (λ (z : ℕ). IsRmw (events ++ e ∷ []) cell z t.1.0) new t.1.1.1) (by_fence {s = s} is order t.1.1.0))
       ]
 

@@ -1,13 +1,12 @@
 -- The tables before the first event.
-use Rattle.std.proofs.Common.{◌≡◌, ℕ, zero, suc, ◌+◌, ◌<◌, ◌≤◌, true, List, [], Option, Some, None, length, replicate, refl, sym, ap, ◌∙◌, subst, arith, ◌⊎◌, inl, inr}
+use Rattle.std.proofs.Common.{◌≡◌, ℕ, zero, suc, ◌+◌, ◌<◌, true, List, [], Some, None, length, replicate, sym, ap, ◌∙◌, subst, arith, inl}
 use Rattle.std.proofs.lemmas.List.{get_or-replicate, length-replicate}
 use Rattle.c11_events.specs.declared.event.Event.{Event}
 use Rattle.c11_events.specs.Events.{At, event_at, stored_cell, loaded_cell, unlocked_mutex, is_create, is_end, is_release_fence}
 use Rattle.c11_happens.specs.declared.mutexes.MutexState.{MutexState}
-use Rattle.c11_happens.specs.Covers.{IsOf}
-use Rattle.c11_happens.specs.Marks.{IsClockOf, Knows, own, start, ReadBy, IsFenceOf, IsEndOf, IsUnlockOf}
+use Rattle.c11_happens.specs.Marks.{IsClockOf, Knows, own, start, ReadBy, IsFenceOf, IsEndOf}
 use Rattle.c11_happens.specs.Noting.{row, AreWide, Contents}
-use Rattle.c11_happens.specs.Kept.{AreSized, IsKept}
+use Rattle.c11_happens.specs.Kept.{IsKept}
 use Rattle.c11_happens.proofs.Clocks.{clock_zero}
 
 -- there is no event yet

@@ -1,5 +1,5 @@
 -- The sizes of clocks and of tables of clocks.
-use Rattle.std.proofs.Common.{◌≡◌, ℕ, zero, suc, ◌<◌, Bool, true, false, ◌&&◌, List, [], ◌∷◌, ◌++◌, length, nat_eq, nat_lt, slice_index, slice_index_or, slice_set, refl, sym, ap, ◌∙◌, subst, arith}
+use Rattle.std.proofs.Common.{◌≡◌, ℕ, ◌<◌, Bool, true, false, ◌&&◌, List, [], length, nat_eq, nat_lt, slice_index, slice_index_or, slice_set, refl, sym, ap, ◌∙◌, subst, arith}
 use Rattle.std.specs.Prelude.{if◌then◌else◌}
 use Rattle.std.specs.Prelude.{Vec}
 use Rattle.std.specs.Vec.{with_items}
@@ -7,7 +7,7 @@ use Rattle.std.proofs.lemmas.List.{with_items_is, get_or_default, get_or-set_sam
 use native.Mathlib.Decide.{ℕ_discrete}
 use mathlib.Core.Logic.{dite}
 use Rattle.c11_clock.specs.Clocks.{joined}
-use Rattle.c11_happens.specs.Noting.{row, AreWide, joined_if, started}
+use Rattle.c11_happens.specs.Noting.{row, AreWide, started}
 
 pub row_at : (table : List (List ℕ)) (i : ℕ) (clock : List ℕ) → i < length table → row (slice_set table i clock) i ≡ clock
 row_at table i clock lt = get_or-set_same table i clock [] lt
@@ -24,7 +24,7 @@ row_set P table i clock j lt here elsewhere = dite (ℕ_discrete j i)
 pub wide_set : (threads : ℕ) (table : List (List ℕ)) (i : ℕ) (clock : List ℕ) → AreWide threads table → length clock ≡ threads → AreWide threads (slice_set table i clock)
 wide_set threads table i clock wide size j lt = dite (ℕ_discrete j i)
     (λ (same : j ≡ i). subst (λ (k : ℕ). length (row (slice_set table i clock) k) ≡ threads) (sym same)
-        (ap (λ (c : List ℕ). length c) (row_at table i clock (omega (arith, length-set table i clock))) ∙ size))
+    (ap (λ (c : List ℕ). length c) (row_at table i clock (omega (arith, length-set table i clock))) ∙ size))
     (λ (other : j ≡ i → ⊥). ap (λ (c : List ℕ). length c) (row_else table i clock j other) ∙ wide j (omega (arith, length-set table i clock)))
 
 pub set_length : (n : ℕ) (table : List (List ℕ)) (i : ℕ) (clock : List ℕ) → length table ≡ n → length (slice_set table i clock) ≡ n

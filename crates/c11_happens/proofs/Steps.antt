@@ -1,17 +1,17 @@
 -- What steps directly to a new event is what the event's thread knows and what the event takes over.
-use Rattle.std.proofs.Common.{◌≡◌, ℕ, suc, ◌+◌, ◌-◌, ◌<◌, ◌≤◌, true, List, [], ◌∷◌, ◌++◌, Some, None, length, take, refl, sym, ap, ◌∙◌, subst, arith, ◌⊎◌, inl, inr}
+use Rattle.std.proofs.Common.{◌≡◌, ℕ, suc, ◌-◌, ◌≤◌, true, List, [], ◌∷◌, ◌++◌, Some, length, take, refl, sym, ap, ◌∙◌, subst, arith, inl, inr}
 use Rattle.std.proofs.lemmas.List.{take-append-le, take_at}
 use Rattle.c11_events.specs.declared.event.Event.{Event}
-use Rattle.c11_events.specs.Events.{At, event_at, IsStore, IsLoad, ReadsEarlier, loaded_cell, is_release_store, is_release_fence, is_acquire_load, is_acquire_fence, locked_mutex, unlocked_mutex, is_create, is_end, joined_thread}
-use Rattle.c11_events.specs.HappensBefore.{ProgramOrder, ReleaseSequence, here, next, ReadsSequence, UnlockBeforeLock, CreateBeforeFirst, EndBeforeJoin, IsReleaseStore, IsReleaseFence, SynchronizesWith, release_to_acquire, fence_to_acquire, release_to_fence, fence_to_fence, unlock_to_lock, create_to_first, end_to_join, DirectlyBefore}
+use Rattle.c11_events.specs.Events.{At, IsLoad, ReadsEarlier, loaded_cell, is_release_store, is_release_fence, is_acquire_load, is_acquire_fence, locked_mutex, unlocked_mutex, is_create, is_end, joined_thread}
+use Rattle.c11_events.specs.HappensBefore.{ProgramOrder, ReleaseSequence, ReadsSequence, IsReleaseStore, IsReleaseFence, SynchronizesWith, release_to_acquire, fence_to_acquire, release_to_fence, fence_to_fence, unlock_to_lock, create_to_first, end_to_join, DirectlyBefore}
 use Rattle.c11_events.specs.Threads.{holder, created}
 use Rattle.c11_events.proofs.Basics.{at_same}
 use Rattle.c11_events.proofs.DecideEvents.{at_below}
-use Rattle.c11_events.proofs.Longer.{new_is, old_or_new}
+use Rattle.c11_events.proofs.Longer.{new_is}
 use Rattle.c11_events.proofs.Prefix.{same_more, same_less, load_more, load_less, chain_more, chain_less, program_more, program_less}
 use Rattle.c11_events.proofs.Rises.{chain_rises, step_rises}
-use Rattle.c11_happens.specs.Covers.{IsOf, HasNoEvent, IsCreateOf}
-use Rattle.c11_happens.specs.Marks.{Knows, own, start, Hands, by_store, by_fence, Handed, ReadBy, IsEndOf, IsUnlockOf, TakesFromStore, TakesByFence, TakesFromUnlock, TakesFromEnd, Takes}
+use Rattle.c11_happens.specs.Covers.{IsOf}
+use Rattle.c11_happens.specs.Marks.{Knows, own, start, Hands, by_store, by_fence, Handed, ReadBy, TakesFromStore, TakesByFence, TakesFromUnlock, TakesFromEnd, Takes}
 
 -- what hands x over is x or an earlier event
 pub hands_rise : (events : List Event) (cell x m : ℕ) → ReadsEarlier events → Hands events cell x m → m ≤ x
@@ -78,11 +78,11 @@ module _ (events : List Event) (e : Event) where
             record { event = f.event; is = f.is; holds = of_new (λ g. f.event.thread ≡ g.thread) f.holds }
 
     from_store : (m : ℕ) → ReadsSequence (events ++ e ∷ []) m (suc (length events)) → IsReleaseStore (events ++ e ∷ []) m → is_acquire_load e.kind ≡ true → Takes events e m
-    from_store m seq is acquires = 
+    from_store m seq is acquires =
         inl (inl (inl (inr (record { acquires = acquires; handed = hands_read seq.cell seq.x m seq.reads (by_store is seq.sequence) }))))
 
     from_fenced : (m s : ℕ) → ReadsSequence (events ++ e ∷ []) s (suc (length events)) → IsReleaseFence (events ++ e ∷ []) m → ProgramOrder (events ++ e ∷ []) m s → is_acquire_load e.kind ≡ true → Takes events e m
-    from_fenced m s seq is order acquires = 
+    from_fenced m s seq is order acquires =
         inl (inl (inl (inr (record { acquires = acquires; handed = hands_read seq.cell seq.x m seq.reads (by_fence is order seq.sequence) }))))
 
     by_sync : (m : ℕ) → m ≤ length events → SynchronizesWith (events ++ e ∷ []) m (suc (length events)) → Takes events e m
@@ -101,7 +101,7 @@ module _ (events : List Event) (e : Event) where
     by_sync m le (create_to_first c) =
         let creates : created (take m events) ≡ e.thread = sym (of_new (λ f. f.thread ≡ created (take m (events ++ e ∷ []))) c.thread ∙ created_old m le) in
         inl (inl (inl (inl (start (λ a is. c.first a (omega (arith, below a (λ f. f.thread ≡ e.thread) is))
-            (more a (λ f. f.thread ≡ created (take m (events ++ e ∷ []))) (record { event = is.event; is = is.is; holds = is.holds ∙ sym (created_old m le ∙ creates) })))
+        (more a (λ f. f.thread ≡ created (take m (events ++ e ∷ []))) (record { event = is.event; is = is.is; holds = is.holds ∙ sym (created_old m le ∙ creates) })))
         (record { is = old m (λ f. is_create f.kind ≡ true) le c.create; creates = creates })))))
     by_sync m le (end_to_join j) = let f = old m (λ f. (is_end f.kind ≡ true) × At (events ++ e ∷ []) (suc (length events)) (λ g. joined_thread g.kind ≡ Some f.thread)) le j.end in
         inr (record { thread = f.event.thread; joins = of_new (λ g. joined_thread g.kind ≡ Some f.event.thread) f.holds.1; end = record { event = f.event; is = f.is; holds = (f.holds.0, refl) } })

@@ -1,21 +1,19 @@
 -- The clock of a new event, by what it takes over.
-use Rattle.std.proofs.Common.{◌≡◌, ℕ, suc, ◌+◌, ◌<◌, ◌≤◌, Bool, true, false, ◌&&◌, List, [], ◌∷◌, ◌++◌, Option, Some, None, length, max, nat_eq, nat_lt, slice_index, slice_set, replicate, refl, sym, ap, ◌∙◌, subst, arith, ◌⊎◌, inl, inr}
+use Rattle.std.proofs.Common.{◌≡◌, ℕ, suc, ◌<◌, ◌≤◌, Bool, true, false, List, [], ◌∷◌, ◌++◌, Option, Some, None, length, max, nat_lt, slice_index, replicate, refl, sym, ap, ◌∙◌, subst, arith, ◌⊎◌, inl, inr}
 use Rattle.std.specs.Prelude.{is_some, if◌then◌else◌}
 use Rattle.std.proofs.lemmas.Bool.{ltb-true, lt-ltb}
-use Rattle.std.proofs.lemmas.List.{length-set, length-replicate}
-use Rattle.c11_clock.specs.Clocks.{joined}
+use Rattle.std.proofs.lemmas.List.{length-set}
 use Rattle.c11_events.specs.declared.event.Event.{Event}
-use Rattle.c11_events.specs.Events.{At, event_at, IsStore, ReadsEarlier, loaded_cell, is_acquire_load, is_acquire_fence, locked_mutex, unlocked_mutex, joined_thread, is_end}
+use Rattle.c11_events.specs.Events.{ReadsEarlier, loaded_cell, is_acquire_load, is_acquire_fence, locked_mutex, unlocked_mutex, joined_thread}
 use Rattle.c11_events.specs.Threads.{holder}
 use Rattle.c11_events.proofs.DecideEvents.{at_below}
 use Rattle.c11_events.proofs.Prefix.{store_less}
-use Rattle.c11_happens.specs.Covers.{IsOf}
 use Rattle.c11_happens.specs.Marks.{IsClockOf, Knows, Hands, Handed, ReadBy, IsEndOf, IsUnlockOf, IsUnlockUpTo, TakesFromStore, TakesByFence, TakesFromUnlock, TakesFromEnd, Takes}
-use Rattle.c11_happens.specs.Noting.{row, AreWide, Contents, joined_if, after_store, after_fence, after_unlock, after_end, taken, raised, own_clock}
-use Rattle.c11_happens.specs.Kept.{IsKept, AreSized}
+use Rattle.c11_happens.specs.Noting.{row, Contents, joined_if, after_store, after_fence, after_unlock, after_end, taken, raised, own_clock}
+use Rattle.c11_happens.specs.Kept.{IsKept}
 use Rattle.c11_happens.proofs.Clocks.{clock_join, clock_same, clock_zero, clock_new}
 use Rattle.c11_happens.proofs.Marking.{clock_if, acquire_loads, positive}
-use Rattle.c11_happens.proofs.Places.{length_joined, length_joined_if}
+use Rattle.c11_happens.proofs.Places.{length_joined}
 use Rattle.c11_happens.proofs.Steps.{new_load, direct_takes, takes_direct}
 
 none_of : (h : Option ℕ) → (if is_some h then false else true) ≡ true → h ≡ None
@@ -40,7 +38,7 @@ module _ (threads room : ℕ) (events : List Event) (e : Event) (t : Contents) (
 
   pub last_clock : (mutex : ℕ) → IsClockOf events (row t.passed (t.mutexes mutex).last_unlock) (IsUnlockOf events mutex)
   last_clock mutex = let last = kept.last_unlocks mutex in elim last.0 [
-    inl zero ↦ subst (λ (c : List ℕ). IsClockOf events c (IsUnlockOf events mutex)) (sym (ap (λ (x : ℕ). row t.passed x) zero ∙ kept.none))
+    | inl zero ↦ subst (λ (c : List ℕ). IsClockOf events c (IsUnlockOf events mutex)) (sym (ap (λ (x : ℕ). row t.passed x) zero ∙ kept.none))
         (clock_zero events threads (IsUnlockOf events mutex) (λ m is. let some = positive events m is.event is.is in omega (arith, last.1 m is)))
     | inr is ↦ clock_same events (row t.passed (t.mutexes mutex).last_unlock) (IsUnlockUpTo events mutex (t.mutexes mutex).last_unlock) (IsUnlockOf events mutex) (λ m p. p.0) (λ m p. (p, last.1 m p))
         (kept.unlocks mutex (t.mutexes mutex).last_unlock is)
@@ -48,7 +46,7 @@ module _ (threads room : ℕ) (events : List Event) (e : Event) (t : Contents) (
 
   pub last_within : (mutex : ℕ) → (t.mutexes mutex).last_unlock ≤ length events
   last_within mutex = elim (kept.last_unlocks mutex).0 [
-    inl zero ↦ omega arith
+    | inl zero ↦ omega arith
     | inr is ↦ omega (arith, at_below events (t.mutexes mutex).last_unlock (λ f. unlocked_mutex f.kind ≡ Some mutex) is)
   ]
 

@@ -1,15 +1,14 @@
 -- Lists of events that differ in texts alone have the same happens-before.
-use Rattle.std.proofs.Common.{◌≡◌, ℕ, zero, suc, ◌+◌, ◌-◌, ◌<◌, ◌≤◌, Bool, true, cond, List, [], ◌∷◌, Option, Some, None, length, map, take, nat_eq, slice_get, refl, sym, ap, ◌∙◌, subst, arith, ◌⊎◌, inl, inr}
+use Rattle.std.proofs.Common.{◌≡◌, ℕ, zero, suc, ◌+◌, ◌-◌, true, cond, List, [], ◌∷◌, Option, Some, None, map, take, nat_eq, slice_get, refl, sym, ap, ◌∙◌, subst, inl, inr}
 use Rattle.std.proofs.lemmas.List.Sums.{sum_by-cons}
 use Rattle.c11_events.specs.declared.event.Event.{Event}
 use Rattle.c11_events.specs.declared.event.EventKind.{EventKind}
 use Rattle.c11_events.specs.declared.event.EventKind.TheVariants.{Out}
-use Rattle.c11_events.specs.Closure.{Closure, one, join}
 use Rattle.c11_events.specs.Events.{At, event_at, IsStore, IsLoad, IsRmw, stored_cell, loaded_cell, is_release_store, is_release_fence, is_acquire_load, is_acquire_fence, locked_mutex, unlocked_mutex, is_create, is_end, joined_thread}
-use Rattle.c11_events.specs.HappensBefore.{ProgramOrder, ReleaseSequence, here, next, ReadsSequence, UnlockBeforeLock, CreateBeforeFirst, EndBeforeJoin, SynchronizesWith, release_to_acquire, fence_to_acquire, release_to_fence, fence_to_fence, unlock_to_lock, create_to_first, end_to_join, DirectlyBefore, HappensBefore}
+use Rattle.c11_events.specs.HappensBefore.{ProgramOrder, ReleaseSequence, here, next, ReadsSequence, CreateBeforeFirst, SynchronizesWith, release_to_acquire, fence_to_acquire, release_to_fence, fence_to_fence, unlock_to_lock, create_to_first, end_to_join, DirectlyBefore, HappensBefore}
 use Rattle.c11_events.specs.Threads.{holder, holder_from, holder_next, created, option_is}
 use Rattle.c11_events.proofs.Prefix.{closure_map}
-use Rattle.c11_happens.specs.Covers.{IsOf, IsCreateOf}
+use Rattle.c11_happens.specs.Covers.{IsCreateOf}
 use Rattle.c11_happens.specs.Laws.{TextsDoNotMatter}
 use Rattle.c11_happens.specs.Trace.{textless, textless_kind}
 

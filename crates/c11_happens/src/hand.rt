@@ -39,13 +39,7 @@ pub(crate) fn keep_read(clock: &mut Clock, event: &Event, passed: &[Clock])
 }
 
 // What a store hands on: by itself where it is a release, by the last release fence, and as a read-modify-write what it reads.
-fn hand_store(
-    clock: &mut Clock,
-    event: &Event,
-    passed: &[Clock],
-    fenced: &[Clock],
-    own: &Clock,
-)
+fn hand_store(clock: &mut Clock, event: &Event, passed: &[Clock], fenced: &[Clock], own: &Clock)
     requires within { is_load event.now ≡ true → event.now.from < length passed.now }
     requires thread { event.now.thread < length fenced.now }
     requires wide { AreWide (length clock.old) passed.now }
@@ -63,13 +57,7 @@ fn hand_store(
 }
 
 // What an unlock hands on: itself, and what the unlock before it did.
-fn hand_unlock(
-    clock: &mut Clock,
-    event: &Event,
-    mutexes: &Mutexes,
-    passed: &[Clock],
-    own: &Clock,
-)
+fn hand_unlock(clock: &mut Clock, event: &Event, mutexes: &Mutexes, passed: &[Clock], own: &Clock)
     requires within { (mutex : ℕ) → (state_in mutexes.now mutex).last_unlock < length passed.now }
     requires wide { AreWide (length clock.old) passed.now }
     requires own { length own.now ≡ length clock.old }

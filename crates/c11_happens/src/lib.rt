@@ -12,4 +12,3 @@ mod tables;
 mod take;
 
 pub use happens::Happens;
-

@@ -48,12 +48,7 @@ fn take_by_fence(clock: &mut Clock, event: &Event, read: &[Clock])
 }
 
 // What a lock of a free mutex takes over from the unlocks.
-fn take_from_unlock(
-    clock: &mut Clock,
-    event: &Event,
-    mutexes: &Mutexes,
-    passed: &[Clock],
-)
+fn take_from_unlock(clock: &mut Clock, event: &Event, mutexes: &Mutexes, passed: &[Clock])
     requires within { (mutex : ℕ) → (state_in mutexes.now mutex).last_unlock < length passed.now }
     requires wide { AreWide (length clock.old) passed.now }
     ensures joined { clock.new ≡ after_unlock (locked_mutex event.now.kind) (state_in mutexes.now) passed.now clock.old }

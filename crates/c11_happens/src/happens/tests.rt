@@ -12,7 +12,9 @@ use std::process::Abort;
 use std::test::Fail;
 
 const RELAXED: Order = Order::Relaxed;
+
 const ACQUIRE: Order = Order::Acquire;
+
 const RELEASE: Order = Order::Release;
 
 // What a thread does; a read names the store that is read.
@@ -227,10 +229,16 @@ fn rows_are_ordered_as_the_standard_says(rt: HostRuntime) -> Result<(), Fail> {
         let mut number = 0u32;
         for (thread, act) in PRELUDE.iter().chain(steps.iter()) {
             number = number.saturating_add(1);
-            assert!(rt; happens.noted(&event(number, *thread, *act)), "row {row}, event {number}");
+            assert!(rt;
+                happens.noted(&event(number, *thread, *act)),
+                "row {row}, event {number}"
+            );
         }
         for (a, b, before) in pairs.iter() {
-            assert!(rt; happens.answer(*a, *b) == Some(*before), "row {row}: {a} before {b}");
+            assert!(rt;
+                happens.answer(*a, *b) == Some(*before),
+                "row {row}: {a} before {b}"
+            );
         }
     }
     Ok(())
@@ -394,7 +402,10 @@ fn random_lists_are_ordered_as_the_standard_says(rt: HostRuntime) -> Result<(), 
         }
         for b in 0..EVENTS {
             for a in 0..EVENTS {
-                assert!(rt; happens.answer(a as u32 + 1, b as u32 + 1) == Some(before[b][a]), "list {list}: {a} before {b} of {events:?}");
+                assert!(rt;
+                    happens.answer(a as u32 + 1, b as u32 + 1) == Some(before[b][a]),
+                    "list {list}: {a} before {b} of {events:?}"
+                );
             }
         }
     }

@@ -1,4 +1,4 @@
-use Rattle.std.proofs.Common.{◌≡◌, ◌<◌, ◌∙◌, ap, sym, subst, List, [], ℕ, length, slice_index_or, arith}
+use Rattle.std.proofs.Common.{◌≡◌, ◌<◌, ◌∙◌, ap, sym, subst, List, [], ℕ, arith}
 use Rattle.std.proofs.lemmas.List.{get_or_default}
 use Rattle.c11_happens.specs.Covers.{UpTo, CoversExactly, HasNoEvent, IsLastOf, IsCreateOf}
 use Rattle.c11_happens.specs.Noting.{row}
@@ -17,14 +17,14 @@ module _ (c : goal.After-index) where
 pub returns-clause-last : goal.returns-clause-last
 returns-clause-last c = subst (λ (h : Trace). (b : ℕ) → IsLastOf h.events c.args.thread b → CoversExactly h.events c.index.result.now (UpTo h.events b)) c.self.view_is
     (λ b last. subst (λ (clock : List ℕ). CoversExactly c.self.inside.events.items clock (UpTo c.self.inside.events.items b)) (row_is c)
-        (last_clock c.self.inside.threads c.self.inside.room c.self.inside.events.items (contents c.self.inside.tables) c.self.invariant.kept c.args.thread (is_thread c) b last))
+    (last_clock c.self.inside.threads c.self.inside.room c.self.inside.events.items (contents c.self.inside.tables) c.self.invariant.kept c.args.thread (is_thread c) b last))
 
 pub returns-clause-started : goal.returns-clause-started
 returns-clause-started c = subst (λ (h : Trace). (b : ℕ) → HasNoEvent h.events c.args.thread → IsCreateOf h.events c.args.thread b → CoversExactly h.events c.index.result.now (UpTo h.events b)) c.self.view_is
     (λ b none create. subst (λ (clock : List ℕ). CoversExactly c.self.inside.events.items clock (UpTo c.self.inside.events.items b)) (row_is c)
-        (started_clock c.self.inside.threads c.self.inside.room c.self.inside.events.items (contents c.self.inside.tables) c.self.invariant.kept c.args.thread (is_thread c) b none create))
+    (started_clock c.self.inside.threads c.self.inside.room c.self.inside.events.items (contents c.self.inside.tables) c.self.invariant.kept c.args.thread (is_thread c) b none create))
 
 pub returns-clause-unborn : goal.returns-clause-unborn
 returns-clause-unborn c = subst (λ (h : Trace). HasNoEvent h.events c.args.thread → ((b : ℕ) → IsCreateOf h.events c.args.thread b → ⊥) → CoversExactly h.events c.index.result.now (λ a. ⊥)) c.self.view_is
     (λ none none'. subst (λ (clock : List ℕ). CoversExactly c.self.inside.events.items clock (λ a. ⊥)) (row_is c)
-        (unborn_clock c.self.inside.threads c.self.inside.room c.self.inside.events.items (contents c.self.inside.tables) c.self.invariant.kept c.args.thread (is_thread c) none none'))
+    (unborn_clock c.self.inside.threads c.self.inside.room c.self.inside.events.items (contents c.self.inside.tables) c.self.invariant.kept c.args.thread (is_thread c) none none'))

@@ -1,4 +1,4 @@
-use Rattle.std.proofs.Common.{◌≡◌, ◌<◌, ◌∙◌, ap, sym, List, [], ℕ, length, slice_set, slice_index_or, arith}
+use Rattle.std.proofs.Common.{◌≡◌, ◌∙◌, ap, sym, List, [], ℕ, length, slice_set, slice_index_or, arith}
 use Rattle.std.specs.Prelude.{◌+◌, if◌then◌else◌}
 use Rattle.std.specs.Vec.{with_items}
 use Rattle.std.proofs.lemmas.List.{with_items_is, length-set, get_or_default}
@@ -26,7 +26,7 @@ module _ (c : goal.After-note_mutex) where
   own_same : c.index-own.result.now ≡ own_is
   own_same = c.index-own.ensures ∙ (ap (λ (l : List (List ℕ)). slice_index_or l c.args.event.now.number c.index-own.result.now) clocks_new
       ∙ (get_or_default (slice_set c.args.self.now.clocks.items c.args.event.now.number own_is) c.args.event.now.number c.index-own.result.now []
-          (omega (arith, length-set c.args.self.now.clocks.items c.args.event.now.number own_is, c.requires.ready.number))
+      (omega (arith, length-set c.args.self.now.clocks.items c.args.event.now.number own_is, c.requires.ready.number))
       ∙ row_at c.args.self.now.clocks.items c.args.event.now.number own_is c.requires.ready.number))
 
   passed_new : (with_items c.args.self.now.passed c.hand_on.new.passed).items ≡ slice_set c.args.self.now.passed.items c.args.event.now.number (handed_on (contents c.args.self.now) c.args.event.now own_is)
