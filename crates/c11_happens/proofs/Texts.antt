@@ -1,5 +1,5 @@
 -- Lists of events that differ in texts alone have the same happens-before.
-use Rattle.std.proofs.Common.{◌≡◌, ℕ, zero, suc, ◌+◌, ◌-◌, true, cond, List, [], ◌∷◌, Option, Some, None, map, take, nat_eq, slice_get, refl, sym, ap, ◌∙◌, subst, inl, inr}
+use Rattle.std.proofs.Common.{◌≡◌, ℕ, zero, suc, ◌+◌, ◌-◌, ◌≤◌, true, cond, slice_index, List, [], ◌∷◌, Option, Some, None, map, take, nat_eq, slice_get, refl, sym, ap, ◌∙◌, subst, inl, inr}
 use Rattle.std.proofs.lemmas.List.Sums.{sum_by-cons}
 use Rattle.c11_events.specs.declared.event.Event.{Event}
 use Rattle.c11_events.specs.declared.event.EventKind.{EventKind}
@@ -8,7 +8,7 @@ use Rattle.c11_events.specs.Events.{At, event_at, IsStore, IsLoad, IsRmw, stored
 use Rattle.c11_events.specs.HappensBefore.{ProgramOrder, ReleaseSequence, here, next, ReadsSequence, CreateBeforeFirst, SynchronizesWith, release_to_acquire, fence_to_acquire, release_to_fence, fence_to_fence, unlock_to_lock, create_to_first, end_to_join, DirectlyBefore, HappensBefore}
 use Rattle.c11_events.specs.Threads.{holder, holder_from, holder_next, created, option_is}
 use Rattle.c11_events.proofs.Prefix.{closure_map}
-use Rattle.c11_happens.specs.Covers.{IsCreateOf}
+use Rattle.c11_happens.specs.Covers.{UpTo, CoversExactly, HasNoEvent, IsLastOf, IsCreateOf}
 use Rattle.c11_happens.specs.Laws.{TextsDoNotMatter}
 use Rattle.c11_happens.specs.Trace.{textless, textless_kind}
 
@@ -104,6 +104,16 @@ module _ (events others : List Event) (alike : AreAlike events others) where
     created_at : (thread c : ℕ) → IsCreateOf events thread c → IsCreateOf others thread c
     created_at thread c is = record { is = kind_at is_create (λ _. refl) c true is.is; creates = sym (counts c) ∙ is.creates }
 
+    up_to_at : (a b : ℕ) → UpTo events b a → UpTo others b a
+    up_to_at a b (inl same) = inl same
+    up_to_at a b (inr h) = inr (before_at a b h)
+
+    last_at : (thread b : ℕ) → IsLastOf events thread b → IsLastOf others thread b
+    last_at thread b is = record { is = thread_at b thread is.is; last = λ a t. is.last a (thread_back a thread t) }
+
+    none_at : (thread : ℕ) → HasNoEvent events thread → HasNoEvent others thread
+    none_at thread none a t = none a (thread_back a thread t)
+
 -- the events without texts
 
 same_twice : (e : Event) → Alike e (textless e)
@@ -143,14 +153,29 @@ holder_same held mutex (suc a) (e ∷ events) = holder_same (holder_next held mu
     next_same None = ap (λ (o : Option ℕ). cond (option_is o mutex) (Some e.thread) None) (sym (same_kind locked_mutex (λ _. refl) e.kind))
     next_same (Some u) = ap (λ (o : Option ℕ). cond (option_is o mutex) (cond (nat_eq e.thread u) None (Some u)) (Some u)) (sym (same_kind unlocked_mutex (λ _. refl) e.kind))
 
+covers_at : (events others : List Event) (alike : AreAlike others events) (clock : List ℕ) (b : ℕ) → ((a : ℕ) → UpTo events b a → UpTo others b a) → ((a : ℕ) → UpTo others b a → UpTo events b a)
+    → CoversExactly events clock (UpTo events b) → CoversExactly others clock (UpTo others b)
+covers_at events others alike clock b to from covers a e at =
+    let t = alike a e at in
+    let exact = covers a t.event t.is in
+    let thread : e.thread ≡ t.event.thread = ap (λ (g : Event). g.thread) t.holds in
+    (λ le. to a (exact.0 (subst (λ (u : ℕ). a ≤ slice_index clock u) thread le)), λ u. subst (λ (u : ℕ). a ≤ slice_index clock u) (sym thread) (exact.1 (from a u)))
+
 pub texts_do_not_matter : TextsDoNotMatter
 texts_do_not_matter events =
     let less = map textless events in
     let counts = λ (a : ℕ). created_same a events in
     let holders = λ (a mutex : ℕ). holder_same None mutex a events in
+    let back = λ (a : ℕ). sym (counts a) in
+    let backs = λ (a mutex : ℕ). sym (holders a mutex) in
     record {
-      before = λ a b. (before_at less events (with_texts events) (without events) (λ a. sym (counts a)) (λ a mutex. sym (holders a mutex)) a b, before_at events less (without events) (with_texts events) counts holders a b);
+      before = λ a b. (before_at less events (with_texts events) (without events) back backs a b, before_at events less (without events) (with_texts events) counts holders a b);
       stores = λ cell x. (store_at less events (with_texts events) cell x, store_at events less (without events) cell x);
-      threads = λ thread a. (thread_at less events (with_texts events) a thread, thread_at events less (without events) a thread);
-      creates = λ thread c. (created_at less events (with_texts events) (without events) (λ a. sym (counts a)) (λ a mutex. sym (holders a mutex)) thread c, created_at events less (without events) (with_texts events) counts holders thread c);
+      last = λ thread b. (last_at less events (with_texts events) (without events) back backs thread b, last_at events less (without events) (with_texts events) counts holders thread b);
+      creates = λ thread c. (created_at less events (with_texts events) (without events) back backs thread c, created_at events less (without events) (with_texts events) counts holders thread c);
+      none = λ thread. (none_at less events (with_texts events) (without events) back backs thread, none_at events less (without events) (with_texts events) counts holders thread);
+      covers = λ clock b. (
+        covers_at less events (without events) clock b (λ a. up_to_at less events (with_texts events) (without events) back backs a b) (λ a. up_to_at events less (without events) (with_texts events) counts holders a b),
+        covers_at events less (with_texts events) clock b (λ a. up_to_at events less (without events) (with_texts events) counts holders a b) (λ a. up_to_at less events (with_texts events) (without events) back backs a b),
+      );
     }
