@@ -9,7 +9,7 @@ use c11_events::Event;
 use std::collections::HashMap;
 
 /// Who holds a mutex, and which Unlock was its last.
-#[derive(Clone, Copy, Debug, PartialEq, Eq)]
+#[derive(Clone, Copy)]
 pub(crate) struct MutexState {
     pub(crate) holder: Option<u32>,
     /// The number of the last Unlock, 0 where there was none.

@@ -133,8 +133,18 @@ impl Happens {
     }
 }
 
-// main, the store that the cell begins with, and the threads that main creates.
-const PRELUDE: [(u32, Act); 8] = [
+// The store that the cell begins with, main, and the two threads that main creates.
+const TWO: &[(u32, Act)] = &[
+    (0, Act::Init),
+    (0, Act::Begin),
+    (0, Act::Create),
+    (0, Act::Create),
+    (1, Act::Begin),
+    (2, Act::Begin),
+];
+
+// The same with three threads.
+const THREE: &[(u32, Act)] = &[
     (0, Act::Init),
     (0, Act::Begin),
     (0, Act::Create),
@@ -145,39 +155,52 @@ const PRELUDE: [(u32, Act); 8] = [
     (3, Act::Begin),
 ];
 
+// A beginning, the events behind it, and which of them happens before which.
+type Row<'a> = (&'a [(u32, Act)], &'a [(u32, Act)], &'a [(u32, u32, bool)]);
+
 #[test]
 fn rows_are_ordered_as_the_standard_says(rt: HostRuntime) -> Result<(), Fail> {
-    let rows: [(&[(u32, Act)], &[(u32, u32, bool)]); 6] = [
+    let rows: [Row; 7] = [
         // A release fence and an acquire fence synchronize through relaxed accesses, the accesses themselves do not.
         (
+            TWO,
             &[
                 (1, Act::Write),
                 (1, Act::Fence(RELEASE)),
                 (1, Act::Store(0, RELAXED)),
-                (2, Act::Load(0, RELAXED, 11)),
+                (2, Act::Load(0, RELAXED, 9)),
                 (2, Act::Fence(ACQUIRE)),
                 (2, Act::Read),
             ],
-            &[
-                (9, 14, true),
-                (9, 12, false),
-                (11, 14, false),
-                (10, 13, true),
-            ],
+            &[(7, 12, true), (7, 10, false), (9, 12, false)],
         ),
         // A release sequence is broken by a store of its own thread.
         (
+            TWO,
             &[
                 (1, Act::Write),
                 (1, Act::Store(0, RELEASE)),
                 (1, Act::Store(0, RELAXED)),
-                (2, Act::Load(0, ACQUIRE, 11)),
+                (2, Act::Load(0, ACQUIRE, 9)),
                 (2, Act::Read),
             ],
-            &[(9, 13, false), (10, 12, false)],
+            &[(7, 11, false), (8, 10, false)],
+        ),
+        // Its head itself synchronizes.
+        (
+            TWO,
+            &[
+                (1, Act::Write),
+                (1, Act::Store(0, RELEASE)),
+                (1, Act::Store(0, RELAXED)),
+                (2, Act::Load(0, ACQUIRE, 8)),
+                (2, Act::Read),
+            ],
+            &[(7, 11, true), (8, 10, true), (9, 11, false)],
         ),
         // A release sequence is carried by a read-modify-write of another thread.
         (
+            THREE,
             &[
                 (1, Act::Write),
                 (1, Act::Store(0, RELEASE)),
@@ -189,6 +212,7 @@ fn rows_are_ordered_as_the_standard_says(rt: HostRuntime) -> Result<(), Fail> {
         ),
         // Each unlock comes before each later lock that finds the mutex free, that of a thread that did not hold it too.
         (
+            THREE,
             &[
                 (1, Act::Lock(7)),
                 (3, Act::Unlock(7)),
@@ -207,6 +231,7 @@ fn rows_are_ordered_as_the_standard_says(rt: HostRuntime) -> Result<(), Fail> {
         ),
         // Each End comes before a later Join, and what the thread does after it does not.
         (
+            THREE,
             &[
                 (1, Act::Write),
                 (1, Act::End),
@@ -220,14 +245,15 @@ fn rows_are_ordered_as_the_standard_says(rt: HostRuntime) -> Result<(), Fail> {
         ),
         // A Create comes before the first event of its thread, where it comes first.
         (
+            THREE,
             &[(4, Act::Begin), (0, Act::Create), (4, Act::Read)],
             &[(5, 8, true), (5, 7, false), (10, 11, false), (2, 6, true)],
         ),
     ];
-    for (row, (steps, pairs)) in rows.iter().enumerate() {
+    for (row, (begin, steps, pairs)) in rows.iter().enumerate() {
         let mut happens = Happens::open(rt.alloc(), 5, 16)?;
         let mut number = 0u32;
-        for (thread, act) in PRELUDE.iter().chain(steps.iter()) {
+        for (thread, act) in begin.iter().chain(steps.iter()) {
             number = number.saturating_add(1);
             assert!(rt;
                 happens.noted(&event(number, *thread, *act)),
