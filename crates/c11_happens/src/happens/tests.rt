@@ -131,6 +131,15 @@ impl Happens {
         let both = 0 < a && a as usize <= place && 0 < b && b as usize <= place;
         if both { Some(self.before(a, b)) } else { None }
     }
+
+    // Whether the thread's clock covers this number of another thread, where there are both.
+    fn knows(&self, thread: u32, other: u32, number: u32) -> Option<bool> {
+        if thread < self.threads && other < self.threads {
+            Some(self.clock(thread).covers(other, number))
+        } else {
+            None
+        }
+    }
 }
 
 // The store that the cell begins with, main, and the two threads that main creates.
@@ -403,6 +412,25 @@ fn drawn_act(words: &mut Pcg32, events: &[Event]) -> Act {
     }
 }
 
+// The last of the thread's events, or where it has none its Create.
+fn last_known(events: &[Event], thread: u32) -> Option<usize> {
+    let mut made = 0u32;
+    let mut create = None;
+    let mut last = None;
+    for (place, event) in events.iter().enumerate() {
+        if event.thread == thread {
+            last = Some(place);
+        }
+        if kinds::is_create(&event.kind) {
+            made = made.saturating_add(1);
+            if made == thread {
+                create = Some(place);
+            }
+        }
+    }
+    last.or(create)
+}
+
 const EVENTS: usize = 14;
 
 #[test]
@@ -431,6 +459,19 @@ fn random_lists_are_ordered_as_the_standard_says(rt: HostRuntime) -> Result<(), 
                 assert!(rt;
                     happens.answer(a as u32 + 1, b as u32 + 1) == Some(before[b][a]),
                     "list {list}: {a} before {b} of {events:?}"
+                );
+            }
+        }
+        for thread in 0..4 {
+            let last = last_known(events.as_slice(), thread);
+            for (a, event) in events.iter().enumerate() {
+                let known = match last {
+                    Some(b) if b < EVENTS && a < EVENTS => a == b || before[b][a],
+                    _ => false,
+                };
+                assert!(rt;
+                    happens.knows(thread, event.thread, event.number) == Some(known),
+                    "list {list}: thread {thread}, {a} of {events:?}"
                 );
             }
         }
