@@ -1,0 +1,11 @@
+pub mod Integers
+pub mod Steps
+pub mod Shapes
+pub mod ExprSound
+pub mod ExprComplete
+pub mod DeclSound
+pub mod DeclComplete
+pub mod StmtSound
+pub mod StmtComplete
+pub mod ItemComplete
+pub mod Runs

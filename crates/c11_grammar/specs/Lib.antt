@@ -1,0 +1,9 @@
+pub mod Tokens
+pub mod Types
+pub mod Expressions
+pub mod Declarations
+pub mod Statements
+pub mod Programs
+pub mod Reading
+pub mod Gives
+pub mod Laws

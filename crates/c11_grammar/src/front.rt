@@ -1,0 +1,1 @@
+//! The first token, and what follows it.
