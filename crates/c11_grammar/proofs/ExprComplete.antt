@@ -13,7 +13,7 @@ use Rattle.c11_grammar.proofs.Shapes.{AllShaped, Shape, all_shaped, assign_shape
 use Rattle.c11_grammar.proofs.Steps.{bind_is, bind_none, closes, commas_complete, commas_first, given_is, given_not, infix_strength, named_is, named_no_literal, named_not, not_seen, not_taken, quoted_is, quoted_not, sees_binds, sees_is, sees_not, sees_one, set_strength, step_strength, takes_binds, takes_is, takes_not}
 use Rattle.c11_grammar.specs.Expressions.{IsArg, IsArgs, IsAssign, IsBinary, IsChain, IsCond, IsTarget, IsUnary, Links, Parts, link, parts}
 use Rattle.c11_grammar.specs.Laws.{Complete, binds}
-use Rattle.c11_grammar.specs.Reading.{◌>>=◌, Out, Readers, arg_of, args_of, assign_of, assigned_to, binary_of, cast_to_of, chain_of, cond_of, index_after, links, named_of, paren_of, readers, step_after, take, target_of, unary_of}
+use Rattle.c11_grammar.specs.Reading.{◌>>=◌, Out, Readers, arg_of, args_of, assign_of, assigned_to, binary_of, branches_of, cast_to_of, chain_of, cond_of, index_after, links, named_of, paren_of, readers, step_after, take, target_of, unary_of}
 use Rattle.c11_grammar.specs.Tokens.{Named, Sees, Takes, Tokens, counted, exactly, infix_at, prefix_of, set_of, step_of}
 use Rattle.c11_grammar.specs.declared.token.Mark.{Mark}
 use Rattle.std.proofs.lemmas.List.{append-nil, append_assoc}
@@ -138,7 +138,7 @@ module _ (is : Parts) (d : Readers) (deeper : AllComplete is d) (shaped : AllSha
   binary_complete (suc level) = chain_complete (IsBinary is level) (binary_of d level) (suc level) (binary_complete level) (binary_shape is shaped level)
 
   cond_complete : Complete 12 (IsCond is) (cond_of d)
-  unfolding cond_of
+  unfolding cond_of branches_of
   cond_complete ts expr rest (g.IsCond.alone whole) less = bind_is _ (binary_complete 10 ts expr rest whole (omega arith)) (given_not _ _ (not_taken m.Question rest less) refl)
   cond_complete ts expr rest (g.cond first question middle colon otherwise) less = bind_is _ (binary_complete 10 _ _ _ first (omega (arith, takes_binds question)))
       (given_is _ _ (takes_is question) (bind_is _ (deeper.assign _ _ _ middle (closes m.Colon colon (omega arith)))

@@ -12,7 +12,7 @@ use Rattle.c11_grammar.proofs.Integers.{cast_to_sound}
 use Rattle.c11_grammar.proofs.Steps.{holds_bind, holds_given, list_sound, literal_sound, name_sound, see_sound, take_sound, text_sound, weaken}
 use Rattle.c11_grammar.specs.Expressions.{IsArg, IsArgs, IsAssign, IsBinary, IsChain, IsCond, IsTarget, IsUnary, Links, Parts, link, parts}
 use Rattle.c11_grammar.specs.Laws.{Holds, Sound, finds, nothing}
-use Rattle.c11_grammar.specs.Reading.{◌>>=◌, Out, Readers, arg_of, args_of, assign_of, assigned_to, binary_of, chain_of, chained, cond_of, index_after, links, named_of, paren_of, readers, step_after, target_of, unary_of}
+use Rattle.c11_grammar.specs.Reading.{◌>>=◌, Out, Readers, arg_of, args_of, assign_of, assigned_to, binary_of, branches_of, chain_of, chained, cond_of, index_after, links, named_of, paren_of, readers, step_after, target_of, unary_of}
 use Rattle.c11_grammar.specs.Tokens.{Named, Takes, Tokens, counted, infix_at, prefix_of, set_of, step_of}
 use Rattle.std.proofs.lemmas.List.{append-nil, append_assoc}
 use Rattle.c11_grammar.specs.declared.token.Mark.TheVariants as m
@@ -106,7 +106,7 @@ module _ (is : Parts) (d : Readers) (deeper : AllSound is d) where
   binary_sound (suc level) = chain_sound (IsBinary is level) (binary_of d level) (binary_sound level) (suc level)
 
   cond_sound : Sound (IsCond is) (cond_of d)
-  unfolding cond_of
+  unfolding cond_of branches_of
   cond_sound ts = holds_bind (binary_sound 10 ts) λ test first.
       holds_given (take_sound m.Question test.1) (finds (g.IsCond.alone first)) λ p question.
       holds_bind (deeper.assign p.1) λ yes middle.

@@ -12,7 +12,7 @@ use Rattle.c11_grammar.proofs.Steps.{begins_is, bind_is, bind_none, closes, comm
 use Rattle.c11_grammar.proofs.StmtComplete.{block_complete, block_shorter, decl_at_complete, decl_at_shape, stmt_at_complete, stmt_at_shape}
 use Rattle.c11_grammar.specs.Declarations.{IsMutexVar, IsPlace, IsVar}
 use Rattle.c11_grammar.specs.Programs.{IsGlobals, IsItem}
-use Rattle.c11_grammar.specs.Reading.{◌>>=◌, Out, answer_of, decl_reader, declared_of, define_after, function_after, globals_of, head_of, item_of, mutex_var, name, see_sort, seen, started_var, stmt_reader, take}
+use Rattle.c11_grammar.specs.Reading.{◌>>=◌, Out, answer_of, decl_reader, declared_of, define_after, function_after, global_after, globals_of, head_of, item_of, mutex_var, name, see_sort, seen, started_var, stmt_reader, take}
 use Rattle.c11_grammar.specs.Statements.{decl_at, stmt_at}
 use Rattle.c11_grammar.specs.Tokens.{Begins, Commas, MayTake, Sees, Takes, Tokens, atomic_of, exactly, sees, takes}
 use Rattle.c11_grammar.specs.Types.{IsAnswer, IsAtomic, IsInteger}
@@ -172,7 +172,7 @@ declared_goes ts a p y first may type goes = given_not _ _ (static_not m.Include
     (bind_is _ (begins_is first) (ap (declared_of p) (skip_is may (no_type m.Static refl a type)) ∙ goes)))
 
 pub item_complete : (ts : Tokens) (item : Item) (rest : Tokens) → IsItem ts item rest → item_of ts ≡ Some (item, rest)
-unfolding item_of define_after declared_of function_after head_of
+unfolding item_of define_after declared_of global_after function_after head_of
 item_complete ts it rest (pr.include word) = given_is _ _ (takes_is word) refl
 item_complete ts it rest (pr.define word front number) = past m.Include _ _ word refl (given_is _ _ (takes_is word)
     (bind_is _ (named_is front) (bind_is _ (counted_is number) refl)))

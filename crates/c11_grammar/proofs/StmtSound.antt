@@ -13,7 +13,7 @@ use Rattle.c11_grammar.specs.Declarations.{IsMutexVar, IsVar}
 use Rattle.c11_grammar.specs.Expressions.{IsAssign, parts}
 use Rattle.c11_grammar.specs.Laws.{Holds, Sound, finds, nothing}
 use Rattle.c11_grammar.specs.Programs.{IsGlobals, IsItem}
-use Rattle.c11_grammar.specs.Reading.{◌>>=◌, Out, arm_of, arms, assign_of, block_after, block_item_of, block_items, decl_reader, declared_of, define_after, do_after, evaluated, evaluation, for_after, for_start_of, function_after, globals_of, head_of, if_after, item_of, jump_of, loop_of, maybe_of, mutex_var, readers, return_after, skip, started_var, stmt_of, stmt_reader, test_of, while_after}
+use Rattle.c11_grammar.specs.Reading.{◌>>=◌, Out, arm_of, arms, assign_of, block_after, block_item_of, block_items, decl_reader, declared_of, define_after, do_after, evaluated, evaluation, for_after, for_start_of, function_after, global_after, globals_of, head_of, if_after, item_of, jump_of, loop_of, maybe_of, mutex_var, readers, return_after, skip, started_var, stmt_of, stmt_reader, test_of, while_after}
 use Rattle.c11_grammar.specs.Statements.{IsArm, IsBlock, IsBlockItem, IsBlockItems, IsElse, IsForStart, IsMaybe, IsStmt, IsTest, MoreArms, decl_at, stmt_at}
 use Rattle.c11_grammar.specs.Tokens.{Begins, MayTake, Named, Takes, Tokens, declares}
 use Rattle.c11_grammar.specs.Types.{IsAnswer}
@@ -165,7 +165,7 @@ head_sound ts = holds_bind (answer_sound ts) λ a answer. holds_bind (name_sound
     finds (a.1, w.1, q.0.1, answer, front, left)
 
 declared_sound : (ts a : Tokens) (p : Spot) → Begins ts p → MayTake m.Static ts a → Holds (λ x. IsItem ts x.0 x.1) (declared_of p a)
-unfolding declared_of function_after IsHead IsClosedParams
+unfolding declared_of global_after function_after IsHead IsClosedParams
 declared_sound ts a p first may = holds_given (head_sound a)
     (holds_bind (globals_sound a) λ g globals. holds_bind (take_sound m.Semicolon g.1) λ q end. finds (pr.global first may globals end))
     λ h head. holds_bind (params_sound h.1) λ ps params. holds_bind (take_sound m.LeftBrace ps.1) λ q left.

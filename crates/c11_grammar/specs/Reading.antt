@@ -236,14 +236,18 @@ unfoldable pub binary_of : Readers → ℕ → Tokens → Out Expr
 binary_of d zero = unary_of d
 binary_of d (suc level) = chain_of (binary_of d level) (suc level)
 
+-- behind the `?`
+unfoldable pub branches_of : Readers → Expr → Tokens → Out Expr
+branches_of d test ts =
+    d.assign ts >>= λ yes.
+    take m.Colon yes.1 >>= λ q.
+    d.cond q.1 >>= λ no.
+    Some (e.Cond test yes.0 no.0, no.1)
+
 unfoldable pub cond_of : Readers → Tokens → Out Expr
 cond_of d ts =
     binary_of d 10 ts >>= λ test.
-    given (take m.Question test.1) (Some test) (λ p.
-    d.assign p.1 >>= λ yes.
-    take m.Colon yes.1 >>= λ q.
-    d.cond q.1 >>= λ no.
-    Some (e.Cond test.0 yes.0 no.0, no.1))
+    given (take m.Question test.1) (Some test) (λ p. branches_of d test.0 p.1)
 
 -- A target is read as an expression first, so that no token is read twice.
 abbrev pub assigned_to : Readers → Expr → Tokens → Expr-F Arg Expr Link Target → Out Expr
@@ -517,12 +521,14 @@ function_after spot answers word ts =
     block_after (decl_reader 63) (stmt_reader 63) p.0.1 p.1 >>= λ body.
     Some (item.Function (function_with spot word answers ps.0 body.0), body.1)
 
-unfoldable pub declared_of : Spot → Tokens → Out Item
-declared_of spot ts = given (head_of ts) (
+unfoldable pub global_after : Spot → Tokens → Out Item
+global_after spot ts =
     globals_of ts >>= λ g.
     take m.Semicolon g.1 >>= λ q.
-    Some (item.Global spot g.0.0 g.0.1, q.1))
-    (λ h. function_after spot h.0.0 h.0.1 h.1)
+    Some (item.Global spot g.0.0 g.0.1, q.1)
+
+unfoldable pub declared_of : Spot → Tokens → Out Item
+declared_of spot ts = given (head_of ts) (global_after spot ts) (λ h. function_after spot h.0.0 h.0.1 h.1)
 
 unfoldable pub define_after : Spot → Tokens → Out Item
 define_after spot ts =

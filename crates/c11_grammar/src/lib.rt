@@ -8,6 +8,7 @@ pub mod front;
 pub mod laws;
 mod stop;
 mod token;
+pub mod types;
 
 pub use stop::Stop;
 pub use token::{Lexeme, Mark, Sort};
