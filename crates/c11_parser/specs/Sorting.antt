@@ -1,7 +1,7 @@
 -- What the tokens of a text are to the grammar.
 use Rattle.std.specs.Prelude.{◌≤◌, length, ℕ, ◌-◌, nat_lt, Bool, ◌||◌, not, if◌then◌else◌, List, [], ◌∷◌, map, take, drop, Option, Some, None, codes}
 use Rattle.std.specs.List.{list_any}
-use Rattle.core.specs.Str.{bytes_eq}
+use Rattle.std.specs.Str.{bytes_eq}
 use Rattle.c11_lexer.specs.declared.token.TokenKind.{TokenKind}
 use Rattle.c11_lexer.specs.declared.token.TokenKind.TheVariants as k
 use Rattle.c11_lexer.specs.declared.token.Token.{Token}

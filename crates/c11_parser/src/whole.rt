@@ -13,7 +13,7 @@ use c11_ast::{Many, Program};
 use c11_grammar::{Lexeme, Stop};
 use c11_lexer::Token;
 use c11_num::NoMemory;
-use std::alloc::{AllocFailed, Global};
+use std::alloc::{AllocError, Global};
 
 /// Why there is no program.
 #[derive(Clone, Copy, Debug, PartialEq, Eq)]
@@ -27,22 +27,22 @@ pub enum SyntaxFault {
 
 impl From<NoMemory> for SyntaxFault {
     ghost use Rattle.std.specs.Prelude.{◌≡◌};
-    ghost use Rattle.c11_parser.specs.declared.whole.SyntaxFault.TheVariants as fault;
+    ghost use Rattle.c11_parser.specs.declared.whole.SyntaxFault.TheVariants as fault_of;
 
-    ghost from_gives = { λ _ e. e ≡ fault.NoMemory };
+    ghost from_gives = { λ _ e. e ≡ fault_of.NoMemory };
 
     fn from(_: NoMemory) -> SyntaxFault {
         SyntaxFault::NoMemory
     }
 }
 
-impl<T: Drop> From<AllocFailed<T>> for SyntaxFault {
+impl From<AllocError> for SyntaxFault {
     ghost use Rattle.std.specs.Prelude.{◌≡◌};
-    ghost use Rattle.c11_parser.specs.declared.whole.SyntaxFault.TheVariants as fault;
+    ghost use Rattle.c11_parser.specs.declared.whole.SyntaxFault.TheVariants as fault_of;
 
-    ghost from_gives = { λ _ e. e ≡ fault.NoMemory };
+    ghost from_gives = { λ _ e. e ≡ fault_of.NoMemory };
 
-    fn from(_: AllocFailed<T>) -> SyntaxFault {
+    fn from(_: AllocError) -> SyntaxFault {
         SyntaxFault::NoMemory
     }
 }

@@ -22,15 +22,15 @@ loop-turn-preserved c =
     let e = one_more (λ n. starts n c.loop-turn.found c.loop-turn.rest.now) _ c.loop-turn._turn c.loop-turn-test.true c.loop-turn.invariant in
     first_of (search rules, grind (arith, common_steps))
 
-pub returns-in_default-err : goal.returns-in_default-err
+pub returns-in_err-after : goal.returns-in_err-after
 unfolding starts given and_then
-returns-in_default-err c =
+returns-in_err-after c =
     let e = one_more (λ n. starts n c.loop-turn.found c.loop-turn.rest.now) _ c.loop-turn._turn c.loop-turn-test.true c.loop-turn.invariant in
     first_of (search rules, grind (arith, common_steps))
 
-pub returns-in_Some : goal.returns-in_Some
+pub returns-in-Some-take : goal.returns-in-Some-take
 unfolding starts given and_then
-returns-in_Some c =
+returns-in-Some-take c =
     let e = one_more (λ n. starts n c.loop-turn.found c.loop-turn.rest.now) _ c.loop-turn._turn c.loop-turn-test.true c.loop-turn.invariant in
     first_of (search rules, grind (arith, common_steps))
 

@@ -4,9 +4,9 @@ use Rattle.c11_grammar.specs.Reading.{readers, assign_of, decl_reader, stmt_read
 use Rattle.c11_parser.proofs.Turns.{one_more, no_more}
 use Rattle.c11_parser.proofs.stmt.+stmt.Goals as goal
 
-pub block_items-returns-in_Some : goal.block_items-returns-in_Some
+pub block_items-returns-in-Some : goal.block_items-returns-in-Some
 unfolding block_items given and_then
-block_items-returns-in_Some t c =
+block_items-returns-in-Some t c =
     let e = one_more (λ n. block_items (decl_reader c.args.deeper) (stmt_reader c.args.deeper) n c.loop-turn.found c.loop-turn.rest.now) _ c.loop-turn._turn c.loop-turn-test.true c.loop-turn.invariant in
     first_of (search rules, grind (arith, common_steps))
 
