@@ -13,7 +13,11 @@ use std::alloc::Global;
 
 /// An expression one level deeper.
 #[cycle(descent)]
-fn inner_assign<'a>(alloc: Global, tokens: &'a [Lexeme], room: u32) -> Result<(Expr, &'a [Lexeme]), Stop>
+fn inner_assign<'a>(
+    alloc: Global,
+    tokens: &'a [Lexeme],
+    room: u32,
+) -> Result<(Expr, &'a [Lexeme]), Stop>
     ensures { Gives (λ x. (x.0, x.1.now)) result ((spec.readers room).assign tokens.now) }
 {
     if room == 0 {
@@ -24,7 +28,11 @@ fn inner_assign<'a>(alloc: Global, tokens: &'a [Lexeme], room: u32) -> Result<(E
 
 /// A conditional expression one level deeper.
 #[cycle(descent)]
-fn inner_cond<'a>(alloc: Global, tokens: &'a [Lexeme], room: u32) -> Result<(Expr, &'a [Lexeme]), Stop>
+fn inner_cond<'a>(
+    alloc: Global,
+    tokens: &'a [Lexeme],
+    room: u32,
+) -> Result<(Expr, &'a [Lexeme]), Stop>
     ensures { Gives (λ x. (x.0, x.1.now)) result ((spec.readers room).cond tokens.now) }
 {
     if room == 0 {
@@ -35,7 +43,11 @@ fn inner_cond<'a>(alloc: Global, tokens: &'a [Lexeme], room: u32) -> Result<(Exp
 
 /// An operand one level deeper.
 #[cycle(descent)]
-fn inner_unary<'a>(alloc: Global, tokens: &'a [Lexeme], room: u32) -> Result<(Expr, &'a [Lexeme]), Stop>
+fn inner_unary<'a>(
+    alloc: Global,
+    tokens: &'a [Lexeme],
+    room: u32,
+) -> Result<(Expr, &'a [Lexeme]), Stop>
     ensures { Gives (λ x. (x.0, x.1.now)) result ((spec.readers room).unary tokens.now) }
 {
     if room == 0 {
@@ -46,7 +58,11 @@ fn inner_unary<'a>(alloc: Global, tokens: &'a [Lexeme], room: u32) -> Result<(Ex
 
 /// A variable or an element one level deeper.
 #[cycle(descent)]
-fn inner_target<'a>(alloc: Global, tokens: &'a [Lexeme], room: u32) -> Result<(Target, &'a [Lexeme]), Stop>
+fn inner_target<'a>(
+    alloc: Global,
+    tokens: &'a [Lexeme],
+    room: u32,
+) -> Result<(Target, &'a [Lexeme]), Stop>
     ensures { Gives (λ x. (x.0, x.1.now)) result ((spec.readers room).target tokens.now) }
 {
     if room == 0 {
@@ -57,7 +73,11 @@ fn inner_target<'a>(alloc: Global, tokens: &'a [Lexeme], room: u32) -> Result<(T
 
 /// An argument, which is one level deeper than its call.
 #[cycle(descent)]
-fn inner_arg<'a>(alloc: Global, tokens: &'a [Lexeme], room: u32) -> Result<(Arg, &'a [Lexeme]), Stop>
+fn inner_arg<'a>(
+    alloc: Global,
+    tokens: &'a [Lexeme],
+    room: u32,
+) -> Result<(Arg, &'a [Lexeme]), Stop>
     ensures { Gives (λ x. (x.0, x.1.now)) result ((spec.readers room).arg tokens.now) }
 {
     if room == 0 {
@@ -69,7 +89,11 @@ fn inner_arg<'a>(alloc: Global, tokens: &'a [Lexeme], room: u32) -> Result<(Arg,
 /// A variable or an element.
 #[cycle(descent)]
 #[tactic(auto, unfolding(c11_grammar::specs::Reading::and_then, c11_grammar::specs::Reading::target_of))]
-fn target<'a>(alloc: Global, tokens: &'a [Lexeme], deeper: u32) -> Result<(Target, &'a [Lexeme]), Stop>
+fn target<'a>(
+    alloc: Global,
+    tokens: &'a [Lexeme],
+    deeper: u32,
+) -> Result<(Target, &'a [Lexeme]), Stop>
     ensures { Gives (λ x. (x.0, x.1.now)) result (spec.target_of (spec.readers deeper) tokens.now) }
 {
     let (word, rest) = name(tokens)?;
@@ -98,7 +122,11 @@ fn index_after<'a>(
 
 /// Arguments with commas between them.
 #[cycle(descent)]
-fn comma_args<'a>(alloc: Global, tokens: &'a [Lexeme], deeper: u32) -> Result<(Many<Arg>, &'a [Lexeme]), Stop>
+fn comma_args<'a>(
+    alloc: Global,
+    tokens: &'a [Lexeme],
+    deeper: u32,
+) -> Result<(Many<Arg>, &'a [Lexeme]), Stop>
     ensures { Gives (λ x. (x.0, x.1.now)) result (spec.commas ((spec.readers deeper).arg) (length tokens.now) [] tokens.now) }
 {
     let mut found = Many::new(alloc);
@@ -117,7 +145,11 @@ fn comma_args<'a>(alloc: Global, tokens: &'a [Lexeme], deeper: u32) -> Result<(M
 /// The arguments of a call, behind its opening parenthesis, and the closing one.
 #[cycle(descent)]
 #[tactic(auto, unfolding(c11_grammar::specs::Reading::given, c11_grammar::specs::Reading::and_then, c11_grammar::specs::Reading::args_of))]
-fn args<'a>(alloc: Global, tokens: &'a [Lexeme], deeper: u32) -> Result<(Many<Arg>, &'a [Lexeme]), Stop>
+fn args<'a>(
+    alloc: Global,
+    tokens: &'a [Lexeme],
+    deeper: u32,
+) -> Result<(Many<Arg>, &'a [Lexeme]), Stop>
     ensures { Gives (λ x. (x.0, x.1.now)) result (spec.args_of (spec.readers deeper) tokens.now) }
 {
     if let Some((_, rest)) = take(Mark::RightParen, tokens) {

@@ -1,5 +1,5 @@
 -- Declarations of the grammar are read.
-use Rattle.std.proofs.Common.{◌≡◌, ◌<◌, ◌≤◌, ◌+◌, ◌∷◌, ◌++◌, ◌∙◌, ◌==◌, [], if◌then◌else◌, List, None, Option, Some, ap, arith, length, refl, suc, zero, ℕ}
+use Rattle.std.proofs.Common.{◌≡◌, ◌<◌, ◌≤◌, ◌∷◌, ◌++◌, ◌∙◌, [], List, None, Option, Some, ap, arith, length, refl, suc, zero, ℕ}
 use Rattle.c11_ast.specs.declared.expr.Expr.{Expr}
 use Rattle.c11_ast.specs.declared.item.Param.{Param}
 use Rattle.c11_ast.specs.declared.item.Start.{Start}
@@ -15,7 +15,7 @@ use Rattle.c11_grammar.proofs.Shapes.{Shape}
 use Rattle.c11_grammar.proofs.Steps.{begins_is, bind_is, bind_none, closes, commas_complete, commas_first, commas_shorter, counted_is, counted_not, counted_one, given_is, given_not, may_shorter, named_is, named_no_literal, named_not, named_one, not_taken, past, takes_binds, takes_is, takes_not, takes_one}
 use Rattle.c11_grammar.specs.Declarations.{IsConstant, IsDecl, IsInitializer, IsKnown, IsLocal, IsMutexVar, IsParam, IsParams, IsPlace, IsSigned, IsSize, IsStart, IsVar}
 use Rattle.c11_grammar.specs.Laws.{Complete}
-use Rattle.c11_grammar.specs.Reading.{◌>>=◌, Out, constant_of, decl_of, initializer_of, known_of, local_of, mutex_var, param_of, params_of, place_of, see, signed_of, size_after, start_of, started_var, starts, take, void_only}
+use Rattle.c11_grammar.specs.Reading.{Out, constant_of, decl_of, initializer_of, known_of, local_of, mutex_var, param_of, params_of, place_of, see, signed_of, size_after, start_of, started_var, starts, take, void_only}
 use Rattle.c11_grammar.specs.Tokens.{Commas, MayTake, Takes, Tokens, declares, exactly, takes}
 use Rattle.c11_grammar.specs.declared.token.Mark.{Mark}
 use Rattle.std.proofs.lemmas.List.{append_assoc}
@@ -166,8 +166,10 @@ record ParamFirst (ts : Tokens) : Type 0 where
 param_first : (ts : Tokens) (x : Param) (rest : Tokens) → IsParam ts x rest → ParamFirst ts
 unfolding void_only
 param_first ts x rest (dc.number {a = a} {ctype = t} first integer front) = record { no_right = (integer_first ts t a integer).no_right; no_void = bind_none _ (integer_first ts t a integer).no_void }
-param_first ts x rest (dc.pointer word star front) = record { no_right = takes_not (exactly m.RightParen) refl word;
-    no_void = bind_is _ (takes_is word) (takes_not (exactly m.RightParen) refl star) }
+param_first ts x rest (dc.pointer word star front) = record {
+  no_right = takes_not (exactly m.RightParen) refl word;
+  no_void = bind_is _ (takes_is word) (takes_not (exactly m.RightParen) refl star);
+}
 
 pub params_complete : (ts : Tokens) (xs : List Param) (a rest : Tokens) (q : Spot) → IsParams ts xs a → Takes m.RightParen a q rest → params_of ts ≡ Some (xs, rest)
 unfolding params_of void_only
@@ -210,10 +212,20 @@ module _ (is : Tokens → Expr → Tokens → Type 0) (shaped : (ts : Tokens) (p
   decl_shape ts x rest (dc.locals {a = a} {b = b} {p = p} {ctype = t} {all = xs} first integer all end) =
       let front = integer_first ts t a integer in
       let declares_it = integer_declares ts t a integer p first in
-      record { inside = front.no_brace; unended = front.no_semicolon; word = declares_it.0; declared = declares_it.1;
-          shorter = omega (arith, integer_shorter ts t a integer, commas_shorter (IsLocal is) local_shorter a xs b all, takes_one end) }
-  decl_shape ts x rest (dc.handles {a = a} {b = b} {all = xs} word all end) = record { inside = takes_not (exactly m.RightBrace) refl word; unended = takes_not (exactly m.Semicolon) refl word;
-      word = _; declared = thread_declares word; shorter = omega (arith, takes_one word, commas_shorter IsPlace place_shorter a xs b all, takes_one end) }
+      record {
+        inside = front.no_brace;
+        unended = front.no_semicolon;
+        word = declares_it.0;
+        declared = declares_it.1;
+        shorter = omega (arith, integer_shorter ts t a integer, commas_shorter (IsLocal is) local_shorter a xs b all, takes_one end);
+      }
+  decl_shape ts x rest (dc.handles {a = a} {b = b} {all = xs} word all end) = record {
+    inside = takes_not (exactly m.RightBrace) refl word;
+    unended = takes_not (exactly m.Semicolon) refl word;
+    word = _;
+    declared = thread_declares word;
+    shorter = omega (arith, takes_one word, commas_shorter IsPlace place_shorter a xs b all, takes_one end);
+  }
 
 module _ (is : Tokens → Expr → Tokens → Type 0) (shaped : (ts : Tokens) (part : Expr) (rest : Tokens) → is ts part rest → Shape ts rest)
     (expr : Tokens → Out Expr) (complete : Complete 13 is expr) where
@@ -228,9 +240,9 @@ module _ (is : Tokens → Expr → Tokens → Type 0) (shaped : (ts : Tokens) (p
   decl_complete ts x rest (dc.locals {a = a} {b = b} {ctype = t} {all = xs} first integer all end) = given_not _ _ (integer_first ts t a integer).no_thread
       (bind_is _ (begins_is first) (bind_is _ (integer_complete ts t a integer (commas_first (IsLocal is) EndsType (local_ends is shaped) a xs b all))
       (bind_is _ (commas_complete (IsLocal is) (local_of expr) 13 (omega arith) local_complete (local_shorter is shaped) (length a) [] a xs b all
-          (closes m.Semicolon end (omega arith)) (takes_not (exactly m.Comma) refl end) (omega arith))
+      (closes m.Semicolon end (omega arith)) (takes_not (exactly m.Comma) refl end) (omega arith))
       (bind_is _ (takes_is end) refl))))
   decl_complete ts x rest (dc.handles {a = a} {b = b} {all = xs} word all end) = given_is _ _ (takes_is word)
       (bind_is _ (commas_complete IsPlace place_of 13 (omega arith) (λ c y d h less. place_complete c y d h (omega arith)) place_shorter (length a) [] a xs b all
-          (closes m.Semicolon end (omega arith)) (takes_not (exactly m.Comma) refl end) (omega arith))
+      (closes m.Semicolon end (omega arith)) (takes_not (exactly m.Comma) refl end) (omega arith))
       (bind_is _ (takes_is end) refl))

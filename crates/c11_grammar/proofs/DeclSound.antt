@@ -1,5 +1,5 @@
 -- Declarations that are read are in the grammar.
-use Rattle.std.proofs.Common.{◌≡◌, ◌<◌, ◌≤◌, ◌+◌, ◌∷◌, ◌++◌, ◌∙◌, ◌==◌, [], if◌then◌else◌, List, length, refl, subst, suc, sym, zero, ℕ}
+use Rattle.std.proofs.Common.{◌≡◌, ◌∷◌, ◌++◌, ◌∙◌, [], List, length, refl, subst, suc, sym, zero, ℕ}
 use Rattle.c11_ast.specs.declared.expr.Expr.{Expr}
 use Rattle.c11_ast.specs.declared.item.Param.{Param}
 use Rattle.c11_ast.specs.declared.place.Constant.{Constant}
@@ -8,7 +8,7 @@ use Rattle.c11_grammar.proofs.Integers.{integer_sound}
 use Rattle.c11_grammar.proofs.Steps.{holds_bind, holds_given, list_sound, literal_sound, name_sound, spot_sound, take_sound, weaken}
 use Rattle.c11_grammar.specs.Declarations.{IsConstant, IsDecl, IsInitializer, IsKnown, IsLocal, IsMutexVar, IsParam, IsParams, IsPlace, IsSigned, IsSize, IsStart, IsVar}
 use Rattle.c11_grammar.specs.Laws.{Holds, Sound, finds, nothing}
-use Rattle.c11_grammar.specs.Reading.{◌>>=◌, Out, constant_of, decl_of, initializer_of, known_of, local_of, mutex_var, param_of, params_of, place_of, signed_of, size_after, start_of, started_var, starts, void_only}
+use Rattle.c11_grammar.specs.Reading.{Out, constant_of, decl_of, initializer_of, known_of, local_of, mutex_var, param_of, params_of, place_of, signed_of, size_after, start_of, started_var, starts, void_only}
 use Rattle.c11_grammar.specs.Tokens.{Commas, MayTake, Takes, Tokens}
 use Rattle.std.proofs.lemmas.List.{append_assoc}
 use Rattle.c11_grammar.specs.declared.token.Mark.TheVariants as m

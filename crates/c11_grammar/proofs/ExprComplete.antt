@@ -1,5 +1,5 @@
 -- An expression of the grammar that does not go on is read.
-use Rattle.std.proofs.Common.{◌≡◌, ◌<◌, ◌≤◌, ◌+◌, ◌∷◌, ◌++◌, ◌∙◌, ◌==◌, [], if◌then◌else◌, Bool, List, None, Some, ap, arith, false, length, refl, suc, sym, true, zero, ℕ}
+use Rattle.std.proofs.Common.{◌≡◌, ◌<◌, ◌≤◌, ◌+◌, ◌∷◌, ◌++◌, ◌∙◌, [], Bool, List, None, Some, ap, arith, false, length, refl, suc, sym, true, zero, ℕ}
 use Rattle.c11_ast.specs.declared.expr.Arg.{Arg}
 use Rattle.c11_ast.specs.declared.expr.Arg.TheOpen.{Expr-F}
 use Rattle.c11_ast.specs.declared.expr.Expr.{Expr, out-Expr}
@@ -13,7 +13,7 @@ use Rattle.c11_grammar.proofs.Shapes.{AllShaped, Shape, all_shaped, assign_shape
 use Rattle.c11_grammar.proofs.Steps.{bind_is, bind_none, closes, commas_complete, commas_first, given_is, given_not, infix_strength, named_is, named_no_literal, named_not, not_seen, not_taken, quoted_is, quoted_not, sees_binds, sees_is, sees_not, sees_one, set_strength, step_strength, takes_binds, takes_is, takes_not}
 use Rattle.c11_grammar.specs.Expressions.{IsArg, IsArgs, IsAssign, IsBinary, IsChain, IsCond, IsTarget, IsUnary, Links, Parts, link, parts}
 use Rattle.c11_grammar.specs.Laws.{Complete, binds}
-use Rattle.c11_grammar.specs.Reading.{◌>>=◌, Out, Readers, arg_of, args_of, assign_of, assigned_to, binary_of, branches_of, cast_to_of, chain_of, cond_of, index_after, links, named_of, paren_of, readers, step_after, take, target_of, unary_of}
+use Rattle.c11_grammar.specs.Reading.{Out, Readers, arg_of, args_of, assign_of, assigned_to, binary_of, branches_of, cast_to_of, chain_of, cond_of, index_after, links, named_of, paren_of, readers, step_after, take, target_of, unary_of}
 use Rattle.c11_grammar.specs.Tokens.{Named, Sees, Takes, Tokens, counted, exactly, infix_at, prefix_of, set_of, step_of}
 use Rattle.c11_grammar.specs.declared.token.Mark.{Mark}
 use Rattle.std.proofs.lemmas.List.{append-nil, append_assoc}
@@ -63,7 +63,7 @@ module _ (is : Parts) (d : Readers) (deeper : AllComplete is d) (shaped : AllSha
   args_complete ts args a rest q (g.some all) right =
       given_not _ _ (commas_first is.arg (λ b. take m.RightParen b ≡ None) (λ b x c h. (shaped.arg b x c h).inside) ts args a all)
       (bind_is _ (commas_complete is.arg d.arg 13 (omega arith) deeper.arg (λ b x c h. (shaped.arg b x c h).shorter) (length ts) [] ts args a all
-          (closes m.RightParen right (omega arith)) (takes_not (exactly m.Comma) refl right) (omega arith))
+      (closes m.RightParen right (omega arith)) (takes_not (exactly m.Comma) refl right) (omega arith))
       (bind_is _ (takes_is right) refl))
 
   named_goes : (ts a : Tokens) (word : Word) (y : Out Expr) → Named ts word a → named_of d word a ≡ y → unary_of d ts ≡ y
@@ -164,8 +164,13 @@ module _ (is : Parts) (d : Readers) (deeper : AllComplete is d) (shaped : AllSha
       given_not _ _ (no_opening m.Ampersand refl ts opening) (given_not _ _ (no_text ts opening) (bind_is _ (assign_complete ts x rest whole less) refl))
 
 pub all_complete : (room : ℕ) → AllComplete (parts room) (readers room)
-all_complete zero = record { target = λ ts part rest h less. elim h [ ]; unary = λ ts part rest h less. elim h [ ]; cond = λ ts part rest h less. elim h [ ]; assign = λ ts part rest h less. elim h [ ];
-    arg = λ ts part rest h less. elim h [ ] }
+all_complete zero = record {
+  target = λ ts part rest h less. elim h [ ];
+  unary = λ ts part rest h less. elim h [ ];
+  cond = λ ts part rest h less. elim h [ ];
+  assign = λ ts part rest h less. elim h [ ];
+  arg = λ ts part rest h less. elim h [ ];
+}
 all_complete (suc room) =
     let deeper = all_complete room in
     let shaped = all_shaped room in

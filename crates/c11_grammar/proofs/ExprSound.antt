@@ -1,5 +1,5 @@
 -- An expression that is read is in the grammar: each proof goes as the reading does.
-use Rattle.std.proofs.Common.{◌≡◌, ◌<◌, ◌≤◌, ◌+◌, ◌∷◌, ◌++◌, ◌∙◌, ◌==◌, [], if◌then◌else◌, List, false, length, refl, subst, suc, sym, true, zero, ℕ}
+use Rattle.std.proofs.Common.{◌≡◌, ◌∷◌, ◌++◌, ◌∙◌, [], List, false, length, refl, subst, suc, sym, true, zero, ℕ}
 use Rattle.c11_ast.specs.declared.expr.Arg.{Arg}
 use Rattle.c11_ast.specs.declared.expr.Arg.TheOpen.{Expr-F}
 use Rattle.c11_ast.specs.declared.expr.Expr.{Expr, out-Expr}
@@ -12,7 +12,7 @@ use Rattle.c11_grammar.proofs.Integers.{cast_to_sound}
 use Rattle.c11_grammar.proofs.Steps.{holds_bind, holds_given, list_sound, literal_sound, name_sound, see_sound, take_sound, text_sound, weaken}
 use Rattle.c11_grammar.specs.Expressions.{IsArg, IsArgs, IsAssign, IsBinary, IsChain, IsCond, IsTarget, IsUnary, Links, Parts, link, parts}
 use Rattle.c11_grammar.specs.Laws.{Holds, Sound, finds, nothing}
-use Rattle.c11_grammar.specs.Reading.{◌>>=◌, Out, Readers, arg_of, args_of, assign_of, assigned_to, binary_of, branches_of, chain_of, chained, cond_of, index_after, links, named_of, paren_of, readers, step_after, target_of, unary_of}
+use Rattle.c11_grammar.specs.Reading.{Out, Readers, arg_of, args_of, assign_of, assigned_to, binary_of, branches_of, chain_of, chained, cond_of, index_after, links, named_of, paren_of, readers, step_after, target_of, unary_of}
 use Rattle.c11_grammar.specs.Tokens.{Named, Takes, Tokens, counted, infix_at, prefix_of, set_of, step_of}
 use Rattle.std.proofs.lemmas.List.{append-nil, append_assoc}
 use Rattle.c11_grammar.specs.declared.token.Mark.TheVariants as m

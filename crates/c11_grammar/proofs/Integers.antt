@@ -1,11 +1,11 @@
 -- Types are read exactly.
-use Rattle.std.proofs.Common.{◌≡◌, ◌<◌, ◌≤◌, ◌+◌, ◌∷◌, ◌++◌, ◌∙◌, ◌==◌, [], if◌then◌else◌, None, Option, Some, ap, arith, length, refl}
+use Rattle.std.proofs.Common.{◌≡◌, ◌<◌, None, Option, Some, ap, arith, length, refl}
 use Rattle.c11_ast.specs.declared.expr.CastTo.{CastTo}
 use Rattle.c11_ast.specs.declared.place.Spot.{Spot}
 use Rattle.c11_ast.specs.declared.place.Word.{Word}
 use Rattle.c11_grammar.proofs.Steps.{bind_is, bind_none, given_is, given_not, holds_bind, holds_given, may_shorter, named_not, past, see_sound, sees_is, sees_not, sees_one, skip_is, skip_sound, take_sound, takes_is, takes_not, takes_one, weaken}
 use Rattle.c11_grammar.specs.Laws.{Sound, finds}
-use Rattle.c11_grammar.specs.Reading.{◌>>=◌, answer_of, atomic_type_of, cast_to_of, integer_of, see, take}
+use Rattle.c11_grammar.specs.Reading.{answer_of, atomic_type_of, cast_to_of, integer_of, see, take}
 use Rattle.c11_grammar.specs.Tokens.{Begins, MayTake, Named, Sees, Takes, Tokens, atomic_of, declares, exactly, takes}
 use Rattle.c11_grammar.specs.Types.{IsAnswer, IsAtomic, IsCastTo, IsInteger}
 use Rattle.c11_grammar.specs.declared.token.Mark.{Mark}
@@ -144,8 +144,11 @@ pub record AtomicFirst (ts : Tokens) : Type 0 where
 
 word_first : {ts rest : Tokens} {t : CType} {p : Spot} → Sees atomic_of ts t p rest → AtomicFirst ts
 word_first h = record {
-  no_integer = record { no_int = sees_not (exactly m.Int) atomic_no_int h; no_long = sees_not (exactly m.Long) atomic_no_long h;
-      no_unsigned = sees_not (exactly m.Unsigned) atomic_no_unsigned h };
+  no_integer = record {
+    no_int = sees_not (exactly m.Int) atomic_no_int h;
+    no_long = sees_not (exactly m.Long) atomic_no_long h;
+    no_unsigned = sees_not (exactly m.Unsigned) atomic_no_unsigned h;
+  };
   no_void = sees_not (exactly m.Void) atomic_no_void h;
   no_mutex = sees_not (exactly m.MtxT) atomic_no_mutex h;
   no_static = sees_not (exactly m.Static) atomic_no_static h;
@@ -190,9 +193,15 @@ pub record IntegerFirst (ts : Tokens) : Type 0 where
 
 integer_mark : (mark : Mark) {ts rest : Tokens} {p : Spot} → Takes mark ts p rest → exactly m.Void mark ≡ None → exactly m.MtxT mark ≡ None → exactly m.Static mark ≡ None
     → exactly m.ThrdT mark ≡ None → exactly m.RightParen mark ≡ None → exactly m.RightBrace mark ≡ None → exactly m.Semicolon mark ≡ None → IntegerFirst ts
-integer_mark mark h v x s t r b z = record { no_void = takes_not (exactly m.Void) v h; no_mutex = takes_not (exactly m.MtxT) x h; no_static = takes_not (exactly m.Static) s h;
-    no_thread = takes_not (exactly m.ThrdT) t h; no_right = takes_not (exactly m.RightParen) r h; no_brace = takes_not (exactly m.RightBrace) b h;
-    no_semicolon = takes_not (exactly m.Semicolon) z h }
+integer_mark mark h v x s t r b z = record {
+  no_void = takes_not (exactly m.Void) v h;
+  no_mutex = takes_not (exactly m.MtxT) x h;
+  no_static = takes_not (exactly m.Static) s h;
+  no_thread = takes_not (exactly m.ThrdT) t h;
+  no_right = takes_not (exactly m.RightParen) r h;
+  no_brace = takes_not (exactly m.RightBrace) b h;
+  no_semicolon = takes_not (exactly m.Semicolon) z h;
+}
 
 pub integer_first : (ts : Tokens) (t : CType) (rest : Tokens) → IsInteger ts t rest → IntegerFirst ts
 integer_first ts t rest (ty.int word) = integer_mark m.Int word refl refl refl refl refl refl refl

@@ -1,5 +1,5 @@
 -- Items of the grammar are read.
-use Rattle.std.proofs.Common.{◌≡◌, ◌<◌, ◌≤◌, ◌+◌, ◌∷◌, ◌++◌, ◌∙◌, ◌==◌, [], if◌then◌else◌, Bool, List, None, Option, Some, ap, arith, false, length, refl, true}
+use Rattle.std.proofs.Common.{◌≡◌, ◌<◌, ◌∷◌, ◌∙◌, [], if◌then◌else◌, Bool, List, None, Option, Some, ap, arith, false, length, refl, true}
 use Rattle.c11_ast.specs.declared.item.GlobalKind.{GlobalKind}
 use Rattle.c11_ast.specs.declared.item.Item.{Item}
 use Rattle.c11_ast.specs.declared.item.Var.{Var}
@@ -12,7 +12,7 @@ use Rattle.c11_grammar.proofs.Steps.{begins_is, bind_is, bind_none, closes, comm
 use Rattle.c11_grammar.proofs.StmtComplete.{block_complete, block_shorter, decl_at_complete, decl_at_shape, stmt_at_complete, stmt_at_shape}
 use Rattle.c11_grammar.specs.Declarations.{IsMutexVar, IsPlace, IsVar}
 use Rattle.c11_grammar.specs.Programs.{IsGlobals, IsItem}
-use Rattle.c11_grammar.specs.Reading.{◌>>=◌, Out, answer_of, decl_reader, declared_of, define_after, function_after, global_after, globals_of, head_of, item_of, mutex_var, name, see_sort, seen, started_var, stmt_reader, take}
+use Rattle.c11_grammar.specs.Reading.{Out, answer_of, decl_reader, declared_of, define_after, function_after, global_after, globals_of, head_of, item_of, mutex_var, name, see_sort, seen, started_var, stmt_reader, take}
 use Rattle.c11_grammar.specs.Statements.{decl_at, stmt_at}
 use Rattle.c11_grammar.specs.Tokens.{Begins, Commas, MayTake, Sees, Takes, Tokens, atomic_of, exactly, sees, takes}
 use Rattle.c11_grammar.specs.Types.{IsAnswer, IsAtomic, IsInteger}
@@ -67,12 +67,12 @@ no_type : (mark : Mark) → types mark ≡ false → (ts : Tokens) → typed ts 
 no_type mark shut [] opening = refl
 no_type mark shut (t ∷ ts) opening = sort_differs t.sort opening
   where
-  sort_differs : (s : Sort) → typed_sort s ≡ true → see_sort (exactly mark) s t.spot ts ≡ None
-  sort_differs (sort.Mark other) open_ = differs mark other t.spot ts (sameb the_type mark other) refl shut open_
-  sort_differs (sort.Name n) open_ = refl
-  sort_differs (sort.Literal n) open_ = refl
-  sort_differs (sort.Text n) open_ = refl
-  sort_differs sort.Reserved open_ = refl
+    sort_differs : (s : Sort) → typed_sort s ≡ true → see_sort (exactly mark) s t.spot ts ≡ None
+    sort_differs (sort.Mark other) open_ = differs mark other t.spot ts (sameb the_type mark other) refl shut open_
+    sort_differs (sort.Name n) open_ = refl
+    sort_differs (sort.Literal n) open_ = refl
+    sort_differs (sort.Text n) open_ = refl
+    sort_differs sort.Reserved open_ = refl
 
 takes_typed : {mark : Mark} {ts rest : Tokens} {p : Spot} → Takes mark ts p rest → types mark ≡ true → typed ts ≡ true
 takes_typed takes is = is
@@ -119,15 +119,15 @@ unfolding globals_of
 globals_complete ts k vars a rest q (pr.plain {a = b} {ctype = t} integer all) end = given_not _ _ (integer_first ts t b integer).no_mutex
     (given_is _ _ (integer_complete ts t b integer (commas_first IsVar EndsType started_ends b vars a all))
     (bind_is _ (commas_complete IsVar started_var 13 (omega arith) started_complete started_shorter (length b) [] b vars a all (closes m.Semicolon end (omega arith))
-        (takes_not (exactly m.Comma) refl end) (omega arith)) refl))
+    (takes_not (exactly m.Comma) refl end) (omega arith)) refl))
 globals_complete ts k vars a rest q (pr.atomic {a = b} {ctype = t} type all) end = given_not _ _ (atomic_first ts t b type).no_mutex
     (given_not _ _ (no_integer ts (atomic_first ts t b type).no_integer)
     (bind_is _ (atomic_complete ts t b type (commas_first IsVar EndsType started_ends b vars a all))
     (bind_is _ (commas_complete IsVar started_var 13 (omega arith) started_complete started_shorter (length b) [] b vars a all (closes m.Semicolon end (omega arith))
-        (takes_not (exactly m.Comma) refl end) (omega arith)) refl)))
+    (takes_not (exactly m.Comma) refl end) (omega arith)) refl)))
 globals_complete ts k vars a rest q (pr.mutexes {a = b} word all) end = given_is _ _ (takes_is word)
     (bind_is _ (commas_complete IsMutexVar mutex_var 13 (omega arith) mutex_complete mutex_shorter (length b) [] b vars a all (closes m.Semicolon end (omega arith))
-        (takes_not (exactly m.Comma) refl end) (omega arith)) refl)
+    (takes_not (exactly m.Comma) refl end) (omega arith)) refl)
 
 globals_shorter : (ts : Tokens) (k : GlobalKind) (vars : List Var) (rest : Tokens) → IsGlobals ts k vars rest → length rest < length ts
 globals_shorter ts k vars rest (pr.plain {a = a} {ctype = t} integer all) = omega (arith, integer_shorter ts t a integer, commas_shorter IsVar started_shorter a vars rest all)
@@ -183,12 +183,20 @@ item_complete ts it rest (pr.function {a = a} {b = b} {c = c} {d = d} {e = f} {f
     (given_is _ _ (bind_is _ (answer_complete a o b c w answer front) (bind_is _ (named_is front) (bind_is _ (takes_is left) refl)))
     (bind_is _ (params_complete d xs f h r params right) (bind_is _ (takes_is brace)
     (bind_is _ (block_complete (decl_at 63) (decl_at_shape 63) (stmt_at 63) (stmt_at_shape 63) (decl_reader 63) (decl_at_complete 63) (stmt_reader 63) (stmt_at_complete 63)
-        i all j rest u v inner close) refl))))
+    i all j rest u v inner close) refl))))
 
 pub item_shorter : (ts : Tokens) (item : Item) (rest : Tokens) → IsItem ts item rest → length rest < length ts
 item_shorter ts it rest (pr.include word) = omega (arith, takes_one word)
 item_shorter ts it rest (pr.define word front number) = omega (arith, takes_one word, named_one front, counted_one number)
 item_shorter ts it rest (pr.global {a = a} {b = b} {kind = k} {vars = vars} first may globals end) = omega (arith, may_shorter may, globals_shorter a k vars b globals, takes_one end)
 item_shorter ts it rest (pr.function {a = a} {b = b} {d = d} {e = f} {f = h} {answers = o} {params = xs} {body = x} first may answer front left params right body) =
-    omega (arith, may_shorter may, answer_shorter a o b answer, named_one front, takes_one left, params_shorter d xs f params, takes_one right,
-        block_shorter (decl_at 63) (decl_at_shape 63) (stmt_at 63) (stmt_at_shape 63) h x rest body)
+    omega (
+      arith,
+      may_shorter may,
+      answer_shorter a o b answer,
+      named_one front,
+      takes_one left,
+      params_shorter d xs f params,
+      takes_one right,
+      block_shorter (decl_at 63) (decl_at_shape 63) (stmt_at 63) (stmt_at_shape 63) h x rest body,
+    )

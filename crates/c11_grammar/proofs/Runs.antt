@@ -1,11 +1,11 @@
 -- Runs of items: there is one longest, and one program at most.
-use Rattle.std.proofs.Common.{◌≡◌, ◌<◌, ◌≤◌, ◌+◌, ◌∷◌, ◌++◌, ◌∙◌, ◌==◌, [], if◌then◌else◌, List, None, Option, Some, ap, arith, length, refl, subst, suc, sym, zero, ℕ}
+use Rattle.std.proofs.Common.{◌≡◌, ◌≤◌, ◌∷◌, ◌++◌, ◌∙◌, [], List, None, Option, Some, ap, arith, length, refl, subst, suc, sym, zero, ℕ}
 use Rattle.c11_ast.specs.declared.item.Item.{Item}
 use Rattle.c11_grammar.proofs.ItemComplete.{item_complete, item_shorter}
 use Rattle.c11_grammar.proofs.StmtSound.{item_sound}
 use Rattle.c11_grammar.specs.Laws.{Holds, IsNoProgram, OnePlace, OneTree, Outcome, SomeOutcome, finds, is_none, is_program}
 use Rattle.c11_grammar.specs.Programs.{IsItem, Run}
-use Rattle.c11_grammar.specs.Reading.{◌>>=◌, Out, item_of}
+use Rattle.c11_grammar.specs.Reading.{Out, item_of}
 use Rattle.c11_grammar.specs.Tokens.{Tokens}
 use Rattle.c11_grammar.specs.declared.token.Lexeme.{Lexeme}
 use Rattle.c11_grammar.specs.Programs as pr
@@ -17,8 +17,8 @@ data Same (item other : Item) (rest other_rest : Tokens) : Type 0 where
 one_item : (ts : Tokens) (item other : Item) (rest other_rest : Tokens) → IsItem ts item rest → IsItem ts other other_rest → Same item other rest other_rest
 one_item ts item other rest other_rest a b = pairs (sym (item_complete ts item rest a) ∙ item_complete ts other other_rest b)
   where
-  pairs : ◌≡◌ {A = Option (Item × Tokens)} (Some (item, rest)) (Some (other, other_rest)) → Same item other rest other_rest
-  pairs e = let pair : ◌≡◌ {A = Item × Tokens} (item, rest) (other, other_rest) = cc in same (ap (λ (x : Item × Tokens). x.0) pair) (ap (λ (x : Item × Tokens). x.1) pair)
+    pairs : ◌≡◌ {A = Option (Item × Tokens)} (Some (item, rest)) (Some (other, other_rest)) → Same item other rest other_rest
+    pairs e = let pair : ◌≡◌ {A = Item × Tokens} (item, rest) (other, other_rest) = cc in same (ap (λ (x : Item × Tokens). x.0) pair) (ap (λ (x : Item × Tokens). x.1) pair)
 
 no_item : (item : Item) (rest : Tokens) → IsItem [] item rest → ⊥
 no_item it rest h = omega (arith, item_shorter [] it rest h)
@@ -44,8 +44,8 @@ stops : (ts : Tokens) (others : List Item) (rest : Tokens) → item_of ts ≡ No
 stops ts others rest none pr.Run.done = omega arith
 stops ts others rest none (pr.Run.more {a = a} {item = x} first run) = let e = item_complete ts x a first in absurd (clash none e)
   where
-  clash : {o : Option (Item × Tokens)} {x : Item × Tokens} → o ≡ None → o ≡ Some x → ⊥
-  clash none some = cc
+    clash : {o : Option (Item × Tokens)} {x : Item × Tokens} → o ≡ None → o ≡ Some x → ⊥
+    clash none some = cc
 
 -- Whole items, and then no item: no run of items is longer.
 longest : (ts : Tokens) (items : List Item) (rest : Tokens) → Run ts items rest → item_of rest ≡ None
@@ -55,8 +55,8 @@ longest ts items rest (pr.Run.more {a = a} {item = x} {items = xs} first tail) n
 longest ts items rest (pr.Run.more {a = a} {item = x} {items = xs} first tail) none others other_rest (pr.Run.more {a = b} {item = y} {items = ys} other run) =
     behind (one_item ts x y a b first other) (λ r. longest a xs rest tail none ys other_rest r) run
   where
-  behind : Same x y a b → (Run a ys other_rest → length rest ≤ length other_rest) → Run b ys other_rest → length rest ≤ length other_rest
-  behind (same e f) goes run = goes (subst (λ r. Run r ys other_rest) (sym f) run)
+    behind : Same x y a b → (Run a ys other_rest → length rest ≤ length other_rest) → Run b ys other_rest → length rest ≤ length other_rest
+    behind (same e f) goes run = goes (subst (λ r. Run r ys other_rest) (sym f) run)
 
 -- items at the end of a run
 pub run_longer : (ts : Tokens) (items : List Item) (a : Tokens) (item : Item) (rest : Tokens) → Run ts items a → IsItem a item rest → Run ts (items ++ item ∷ []) rest
@@ -67,12 +67,12 @@ run_longer ts items a item rest (pr.Run.more {a = b} {items = xs} first tail) la
 pub read_item : (ts : Tokens) (item : Item) (rest : Tokens) → item_of ts ≡ Some (item, rest) → IsItem ts item rest
 read_item ts item rest is = held (item_of ts) (item_sound ts) is
   where
-  held : (o : Out Item) → Holds (λ x. IsItem ts x.0 x.1) o → o ≡ Some (item, rest) → IsItem ts item rest
-  held None h e = absurd (clash e)
-    where
-    clash : ◌≡◌ {A = Out Item} None (Some (item, rest)) → ⊥
-    clash e = cc
-  held (Some x) (finds h) e = let pair : x ≡ (item, rest) = cc in subst (λ (y : Item × Tokens). IsItem ts y.0 y.1) pair h
+    held : (o : Out Item) → Holds (λ x. IsItem ts x.0 x.1) o → o ≡ Some (item, rest) → IsItem ts item rest
+    held None h e = absurd (clash e)
+      where
+        clash : ◌≡◌ {A = Out Item} None (Some (item, rest)) → ⊥
+        clash e = cc
+    held (Some x) (finds h) e = let pair : x ≡ (item, rest) = cc in subst (λ (y : Item × Tokens). IsItem ts y.0 y.1) pair h
 
 no_program : (ts : Tokens) (items : List Item) (first : Lexeme) (after : Tokens) → Run ts items (first ∷ after) → item_of (first ∷ after) ≡ None → IsNoProgram ts first.spot
 no_program ts items first after run none = record {
@@ -112,8 +112,8 @@ same_rest ts xs ys a b (pr.Run.more {a = c} {item = x} {items = zs} first tail) 
 same_rest ts xs ys a b (pr.Run.more {a = c} {item = x} {items = us} first tail) (pr.Run.more {a = d} {item = y} {items = vs} other run) even =
     behind (one_item ts x y c d first other) (λ r. same_rest c us vs a b tail r even) run
   where
-  behind : Same x y c d → (Run c vs b → a ≡ b) → Run d vs b → a ≡ b
-  behind (same e f) goes r = goes (subst (λ z. Run z vs b) (sym f) r)
+    behind : Same x y c d → (Run c vs b → a ≡ b) → Run d vs b → a ≡ b
+    behind (same e f) goes r = goes (subst (λ z. Run z vs b) (sym f) r)
 
 pub one_place : OnePlace
 one_place ts p q x y =

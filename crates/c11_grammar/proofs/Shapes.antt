@@ -1,5 +1,5 @@
 -- How the parts of expressions begin, and that each takes a token.
-use Rattle.std.proofs.Common.{◌≡◌, ◌<◌, ◌≤◌, ◌+◌, ◌∷◌, ◌++◌, ◌∙◌, ◌==◌, [], if◌then◌else◌, Bool, List, None, Option, Some, ap, arith, false, length, refl, suc, true, zero, ℕ}
+use Rattle.std.proofs.Common.{◌≡◌, ◌<◌, ◌≤◌, ◌∷◌, [], if◌then◌else◌, Bool, List, None, Option, Some, ap, arith, false, length, refl, suc, true, zero, ℕ}
 use Rattle.c11_ast.specs.declared.expr.Arg.{Arg}
 use Rattle.c11_ast.specs.declared.expr.Expr.{Expr}
 use Rattle.c11_ast.specs.declared.expr.Link.{Link}
@@ -10,7 +10,7 @@ use Rattle.c11_ast.specs.declared.place.Word.{Word}
 use Rattle.c11_grammar.proofs.Integers.{cast_to_shorter}
 use Rattle.c11_grammar.proofs.Steps.{commas_shorter, quoted_not, quoted_one, sees_one, takes_not, takes_one}
 use Rattle.c11_grammar.specs.Expressions.{IsArg, IsArgs, IsAssign, IsBinary, IsChain, IsCond, IsTarget, IsUnary, Links, Parts, parts}
-use Rattle.c11_grammar.specs.Reading.{◌>>=◌, links, see, see_sort, seen, take, text, text_sort}
+use Rattle.c11_grammar.specs.Reading.{see, see_sort, seen, take, text, text_sort}
 use Rattle.c11_grammar.specs.Tokens.{Counted, Named, Sees, Takes, Tokens, counted, declares, exactly, named, prefix_of, sees, step_of, takes}
 use Rattle.c11_grammar.specs.contracts.token.Mark.{the_type}
 use Rattle.c11_grammar.specs.declared.token.Mark.{Mark}
@@ -97,23 +97,23 @@ pub no_opening : (mark : Mark) → opens_mark mark ≡ false → (ts : Tokens) �
 no_opening mark shut [] opening = refl
 no_opening mark shut (t ∷ ts) opening = sort_differs t.sort opening
   where
-  sort_differs : (s : Sort) → opens_sort s ≡ true → see_sort (exactly mark) s t.spot ts ≡ None
-  sort_differs (sort.Mark other) open_ = differs mark other t.spot ts (sameb the_type mark other) refl shut open_
-  sort_differs (sort.Name n) open_ = refl
-  sort_differs (sort.Literal n) open_ = refl
-  sort_differs (sort.Text n) open_ = refl
-  sort_differs sort.Reserved open_ = refl
+    sort_differs : (s : Sort) → opens_sort s ≡ true → see_sort (exactly mark) s t.spot ts ≡ None
+    sort_differs (sort.Mark other) open_ = differs mark other t.spot ts (sameb the_type mark other) refl shut open_
+    sort_differs (sort.Name n) open_ = refl
+    sort_differs (sort.Literal n) open_ = refl
+    sort_differs (sort.Text n) open_ = refl
+    sort_differs sort.Reserved open_ = refl
 
 pub no_text : (ts : Tokens) → opens ts ≡ true → text ts ≡ None
 no_text [] opening = refl
 no_text (t ∷ ts) opening = sort_differs t.sort opening
   where
-  sort_differs : (s : Sort) → opens_sort s ≡ true → text_sort s t.spot ts ≡ None
-  sort_differs (sort.Mark other) open_ = refl
-  sort_differs (sort.Name n) open_ = refl
-  sort_differs (sort.Literal n) open_ = refl
-  sort_differs (sort.Text n) open_ = absurd cc
-  sort_differs sort.Reserved open_ = refl
+    sort_differs : (s : Sort) → opens_sort s ≡ true → text_sort s t.spot ts ≡ None
+    sort_differs (sort.Mark other) open_ = refl
+    sort_differs (sort.Name n) open_ = refl
+    sort_differs (sort.Literal n) open_ = refl
+    sort_differs (sort.Text n) open_ = absurd cc
+    sort_differs sort.Reserved open_ = refl
 
 undeclared_mark : (mark : Mark) → opens_mark mark ≡ true → declares mark ≡ None
 undeclared_mark m.Plus e = refl
@@ -130,18 +130,20 @@ pub undeclared : (ts : Tokens) → opens ts ≡ true → see declares ts ≡ Non
 undeclared [] opening = refl
 undeclared (t ∷ ts) opening = sort_undeclared t.sort opening
   where
-  sort_undeclared : (s : Sort) → opens_sort s ≡ true → see_sort declares s t.spot ts ≡ None
-  sort_undeclared (sort.Mark other) open_ = ap (λ o. seen o t.spot ts) (undeclared_mark other open_)
-  sort_undeclared (sort.Name n) open_ = refl
-  sort_undeclared (sort.Literal n) open_ = refl
-  sort_undeclared (sort.Text n) open_ = refl
-  sort_undeclared sort.Reserved open_ = refl
+    sort_undeclared : (s : Sort) → opens_sort s ≡ true → see_sort declares s t.spot ts ≡ None
+    sort_undeclared (sort.Mark other) open_ = ap (λ o. seen o t.spot ts) (undeclared_mark other open_)
+    sort_undeclared (sort.Name n) open_ = refl
+    sort_undeclared (sort.Literal n) open_ = refl
+    sort_undeclared (sort.Text n) open_ = refl
+    sort_undeclared sort.Reserved open_ = refl
 
 module _ (is : Parts) (deeper : AllShaped is) where
   target_shape : (ts : Tokens) (target : Target) (rest : Tokens) → IsTarget is ts target rest → Shape ts rest
   target_shape ts target rest (g.IsTarget.plain head) = named_shape head
-  target_shape ts target rest (g.indexed head left index right) = record { opens = (named_shape head).opens;
-      shorter = omega (arith, (named_shape head).shorter, takes_one left, (deeper.assign _ _ _ index).shorter, takes_one right) }
+  target_shape ts target rest (g.indexed head left index right) = record {
+    opens = (named_shape head).opens;
+    shorter = omega (arith, (named_shape head).shorter, takes_one left, (deeper.assign _ _ _ index).shorter, takes_one right);
+  }
 
   args_shorter : (ts : Tokens) (args : List Arg) (rest : Tokens) → IsArgs is.arg ts args rest → length rest ≤ length ts
   args_shorter ts args rest g.none = omega arith
@@ -150,12 +152,16 @@ module _ (is : Parts) (deeper : AllShaped is) where
   unary_shape : (ts : Tokens) (expr : Expr) (rest : Tokens) → IsUnary is ts expr rest → Shape ts rest
   unary_shape ts expr rest (g.prefixed op inner) = record { opens = sees_opens prefix_opens op; shorter = omega (arith, sees_one op, (deeper.unary _ _ _ inner).shorter) }
   unary_shape ts expr rest (g.stepped step whole) = record { opens = sees_opens step_opens step; shorter = omega (arith, sees_one step, (deeper.target _ _ _ whole).shorter) }
-  unary_shape ts expr rest (g.cast {a = a} {b = b} {to = to} left type right inner) = record { opens = paren_opens left;
-      shorter = omega (arith, takes_one left, cast_to_shorter a to b type, takes_one right, (deeper.unary _ _ _ inner).shorter) }
+  unary_shape ts expr rest (g.cast {a = a} {b = b} {to = to} left type right inner) = record {
+    opens = paren_opens left;
+    shorter = omega (arith, takes_one left, cast_to_shorter a to b type, takes_one right, (deeper.unary _ _ _ inner).shorter);
+  }
   unary_shape ts expr rest (g.read whole) = target_shape ts _ rest whole
   unary_shape ts expr rest (g.stepped_after whole step) = record { opens = (target_shape ts _ _ whole).opens; shorter = omega (arith, sees_one step, (target_shape ts _ _ whole).shorter) }
-  unary_shape ts expr rest (g.call head left args right) = record { opens = (named_shape head).opens;
-      shorter = omega (arith, (named_shape head).shorter, takes_one left, args_shorter _ _ _ args, takes_one right) }
+  unary_shape ts expr rest (g.call head left args right) = record {
+    opens = (named_shape head).opens;
+    shorter = omega (arith, (named_shape head).shorter, takes_one left, args_shorter _ _ _ args, takes_one right);
+  }
   unary_shape ts expr rest (g.literal number) = counted_shape number
   unary_shape ts expr rest (g.paren left inner right) = record { opens = paren_opens left; shorter = omega (arith, takes_one left, (deeper.assign _ _ _ inner).shorter, takes_one right) }
 
@@ -166,8 +172,10 @@ module _ (is : Tokens → Expr → Tokens → Type 0) (operand : (ts : Tokens) (
 
   chain_shape : (ts : Tokens) (expr : Expr) (rest : Tokens) → IsChain is level ts expr rest → Shape ts rest
   chain_shape ts expr rest (g.IsChain.alone whole) = operand ts expr rest whole
-  chain_shape ts expr rest (g.chain first op right others) = record { opens = (operand _ _ _ first).opens;
-      shorter = omega (arith, (operand _ _ _ first).shorter, sees_one op, (operand _ _ _ right).shorter, links_shape _ _ _ others) }
+  chain_shape ts expr rest (g.chain first op right others) = record {
+    opens = (operand _ _ _ first).opens;
+    shorter = omega (arith, (operand _ _ _ first).shorter, sees_one op, (operand _ _ _ right).shorter, links_shape _ _ _ others);
+  }
 
 module _ (is : Parts) (deeper : AllShaped is) where
   pub binary_shape : (level : ℕ) (ts : Tokens) (expr : Expr) (rest : Tokens) → IsBinary is level ts expr rest → Shape ts rest
@@ -176,17 +184,23 @@ module _ (is : Parts) (deeper : AllShaped is) where
 
   cond_shape : (ts : Tokens) (expr : Expr) (rest : Tokens) → IsCond is ts expr rest → Shape ts rest
   cond_shape ts expr rest (g.IsCond.alone whole) = binary_shape 10 ts expr rest whole
-  cond_shape ts expr rest (g.cond first question middle colon otherwise) = record { opens = (binary_shape 10 _ _ _ first).opens;
-      shorter = omega (arith, (binary_shape 10 _ _ _ first).shorter, takes_one question, (deeper.assign _ _ _ middle).shorter, takes_one colon, (deeper.cond _ _ _ otherwise).shorter) }
+  cond_shape ts expr rest (g.cond first question middle colon otherwise) = record {
+    opens = (binary_shape 10 _ _ _ first).opens;
+    shorter = omega (arith, (binary_shape 10 _ _ _ first).shorter, takes_one question, (deeper.assign _ _ _ middle).shorter, takes_one colon, (deeper.cond _ _ _ otherwise).shorter);
+  }
 
   pub assign_shape : (ts : Tokens) (expr : Expr) (rest : Tokens) → IsAssign is ts expr rest → Shape ts rest
-  assign_shape ts expr rest (g.assigned whole op right) = record { opens = (target_shape is deeper _ _ _ whole).opens;
-      shorter = omega (arith, (target_shape is deeper _ _ _ whole).shorter, sees_one op, (deeper.assign _ _ _ right).shorter) }
+  assign_shape ts expr rest (g.assigned whole op right) = record {
+    opens = (target_shape is deeper _ _ _ whole).opens;
+    shorter = omega (arith, (target_shape is deeper _ _ _ whole).shorter, sees_one op, (deeper.assign _ _ _ right).shorter);
+  }
   assign_shape ts expr rest (g.IsAssign.plain whole) = cond_shape ts expr rest whole
 
   arg_shape : (ts : Tokens) (arg : Arg) (rest : Tokens) → IsArg is ts arg rest → ArgShape ts rest
-  arg_shape ts arg rest (g.address ampersand whole) = record { inside = takes_not (exactly m.RightParen) refl ampersand;
-      shorter = omega (arith, takes_one ampersand, (target_shape is deeper _ _ _ whole).shorter) }
+  arg_shape ts arg rest (g.address ampersand whole) = record {
+    inside = takes_not (exactly m.RightParen) refl ampersand;
+    shorter = omega (arith, takes_one ampersand, (target_shape is deeper _ _ _ whole).shorter);
+  }
   arg_shape ts arg rest (g.text whole) = record { inside = quoted_not (exactly m.RightParen) whole; shorter = omega (arith, quoted_one whole) }
   arg_shape ts arg rest (g.value whole) = record { inside = no_opening m.RightParen refl ts (assign_shape _ _ _ whole).opens; shorter = (assign_shape _ _ _ whole).shorter }
 

@@ -75,9 +75,9 @@ pub skip_sound : (mark : Mark) (ts : Tokens) → MayTake mark ts (skip mark ts)
 unfolding given
 skip_sound mark ts = by_case (take mark ts) (take_sound mark ts)
   where
-  by_case : (o : Option ((Unit {0} × Spot) × Tokens)) → Holds (λ x. Takes mark ts x.0.1 x.1) o → MayTake mark ts (given o ts (λ p. p.1))
-  by_case None h = tk.without
-  by_case (Some x) (finds h) = tk.with_it h
+    by_case : (o : Option ((Unit {0} × Spot) × Tokens)) → Holds (λ x. Takes mark ts x.0.1 x.1) o → MayTake mark ts (given o ts (λ p. p.1))
+    by_case None h = tk.without
+    by_case (Some x) (finds h) = tk.with_it h
 
 name_sort_sound : (s : Sort) (spot : Spot) (rest : Tokens) → Holds (λ x. Named (record { sort = s; spot = spot } ∷ rest) x.0 x.1) (name_sort s spot rest)
 name_sort_sound (sort.Mark mark) spot rest = nothing
@@ -259,9 +259,9 @@ level_strength : (level : ℕ) (mark : Mark) (o : Option (Infix × ℕ)) (op : I
 level_strength level mark None op e = cc
 level_strength level mark (Some found) op e = level_is (found.1 == level) refl e
   where
-  level_is : (b : Bool) → (found.1 == level) ≡ b → (if b then Some found.0 else None) ≡ Some op → found.1 + 1 ≡ level + 1
-  level_is true same e = grind (arith)
-  level_is false same e = cc
+    level_is : (b : Bool) → (found.1 == level) ≡ b → (if b then Some found.0 else None) ≡ Some op → found.1 + 1 ≡ level + 1
+    level_is true same e = grind (arith)
+    level_is false same e = cc
 
 pub infix_strength : (level : ℕ) (mark : Mark) (op : Infix) → infix_at level mark ≡ Some op → strength mark ≡ level + 1
 infix_strength level mark op e = level_strength level mark (infix_of mark) op e
@@ -303,9 +303,9 @@ pub data Next (mark : Mark) (ts : Tokens) : Option ((Unit {0} × Spot) × Tokens
 pub next_of : (mark : Mark) (ts : Tokens) → Next mark ts (take mark ts)
 next_of mark ts = by_case (take mark ts) refl (take_sound mark ts)
   where
-  by_case : (o : Option ((Unit {0} × Spot) × Tokens)) → take mark ts ≡ o → Holds (λ x. Takes mark ts x.0.1 x.1) o → Next mark ts o
-  by_case None is h = other (λ p rest found. none_taken mark ts p rest found is)
-  by_case (Some x) is (finds h) = next h
+    by_case : (o : Option ((Unit {0} × Spot) × Tokens)) → take mark ts ≡ o → Holds (λ x. Takes mark ts x.0.1 x.1) o → Next mark ts o
+    by_case None is h = other (λ p rest found. none_taken mark ts p rest found is)
+    by_case (Some x) is (finds h) = next h
 
 pub given_by : {B : Type 0} {Q : B → Type 0} {mark : Mark} {ts : Tokens} (other_read : Option B) (f : (Unit {0} × Spot) × Tokens → Option B) (o : Option ((Unit {0} × Spot) × Tokens))
     → Next mark ts o → (Free mark ts → Holds Q other_read) → ((x : (Unit {0} × Spot) × Tokens) → Takes mark ts x.0.1 x.1 → Holds Q (f x)) → Holds Q (given o other_read f)
@@ -316,9 +316,9 @@ given_by other_read f (Some x) (next h) n k = k x h
 pub free_none : (mark : Mark) (ts : Tokens) → Free mark ts → take mark ts ≡ None
 free_none mark ts free = by_case (take mark ts) (take_sound mark ts)
   where
-  by_case : (o : Option ((Unit {0} × Spot) × Tokens)) → Holds (λ x. Takes mark ts x.0.1 x.1) o → o ≡ None
-  by_case None h = refl
-  by_case (Some x) (finds h) = absurd (free x.0.1 x.1 h)
+    by_case : (o : Option ((Unit {0} × Spot) × Tokens)) → Holds (λ x. Takes mark ts x.0.1 x.1) o → o ≡ None
+    by_case None h = refl
+    by_case (Some x) (finds h) = absurd (free x.0.1 x.1 h)
 
 -- ---- lists with commas
 

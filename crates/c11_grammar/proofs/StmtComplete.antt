@@ -1,5 +1,5 @@
 -- Statements of the grammar are read.
-use Rattle.std.proofs.Common.{◌≡◌, ◌<◌, ◌≤◌, ◌+◌, ◌∷◌, ◌++◌, ◌∙◌, ◌==◌, [], if◌then◌else◌, List, None, Option, Some, ap, arith, false, length, refl, suc, sym, zero, ℕ}
+use Rattle.std.proofs.Common.{◌≡◌, ◌<◌, ◌≤◌, ◌+◌, ◌∷◌, ◌++◌, ◌∙◌, [], List, None, Option, Some, ap, arith, false, length, refl, suc, sym, zero, ℕ}
 use Rattle.c11_ast.specs.declared.expr.Expr.{Expr}
 use Rattle.c11_ast.specs.declared.place.Spot.{Spot}
 use Rattle.c11_ast.specs.declared.stmt.Arm.{Arm}
@@ -11,7 +11,7 @@ use Rattle.c11_grammar.proofs.Shapes.{Shape, all_shaped, assign_shape, no_openin
 use Rattle.c11_grammar.proofs.Steps.{bind_is, closes, free_none, given_is, given_not, past, takes_is, takes_not, takes_one}
 use Rattle.c11_grammar.specs.Expressions.{IsAssign, parts}
 use Rattle.c11_grammar.specs.Laws.{Complete, strength}
-use Rattle.c11_grammar.specs.Reading.{◌>>=◌, Out, arm_of, arms, assign_of, block_after, block_item_of, block_items, decl_reader, do_after, evaluated, for_after, for_start_of, if_after, jump_of, loop_of, maybe_of, readers, return_after, see, stmt_of, stmt_reader, take, test_of, while_after}
+use Rattle.c11_grammar.specs.Reading.{Out, arm_of, arms, assign_of, block_after, block_item_of, block_items, decl_reader, do_after, evaluated, for_after, for_start_of, if_after, jump_of, loop_of, maybe_of, readers, return_after, see, stmt_of, stmt_reader, take, test_of, while_after}
 use Rattle.c11_grammar.specs.Statements.{IsArm, IsBlock, IsBlockItem, IsBlockItems, IsElse, IsForStart, IsMaybe, IsStmt, IsTest, MoreArms, decl_at, made_block, stmt_at}
 use Rattle.c11_grammar.specs.Tokens.{Takes, Tokens, declares, exactly}
 use Rattle.c11_grammar.specs.declared.token.Mark.{Mark}
@@ -77,8 +77,11 @@ module _ (is_expr : Tokens → Expr → Tokens → Type 0) (expr_shape : (ts : T
   stmt_shape ts stmt rest (st.nested {block = x} (st.block {a = a} {b = b} {items = all} left inner right)) = marked m.LeftBrace left refl refl
       (omega (arith, takes_one left, block_items_shorter is_decl decl_shaped is_deeper deeper_shape a all b inner, takes_one right))
   stmt_shape ts stmt rest (st.empty end) = marked m.Semicolon end refl refl (omega (arith, takes_one end))
-  stmt_shape ts stmt rest (st.IsStmt.evaluated whole end) = record { inside = no_opening m.RightBrace refl ts (expr_shape _ _ _ whole).opens; not_declared = undeclared ts (expr_shape _ _ _ whole).opens;
-      shorter = omega (arith, (expr_shape _ _ _ whole).shorter, takes_one end) }
+  stmt_shape ts stmt rest (st.IsStmt.evaluated whole end) = record {
+    inside = no_opening m.RightBrace refl ts (expr_shape _ _ _ whole).opens;
+    not_declared = undeclared ts (expr_shape _ _ _ whole).opens;
+    shorter = omega (arith, (expr_shape _ _ _ whole).shorter, takes_one end);
+  }
   stmt_shape ts stmt rest (st.chosen {a = a} {b = b} {c = c} {arm = one} {arms = all} {otherwise = o} word arm others otherwise) = marked m.If word refl refl
       (omega (arith, takes_one word, arm_shorter a one b arm, arms_shorter b all c others, else_shorter c o rest otherwise))
   stmt_shape ts stmt rest (st.while_loop {a = a} {b = b} {test = t} word test body) = marked m.While word refl refl
@@ -86,8 +89,17 @@ module _ (is_expr : Tokens → Expr → Tokens → Type 0) (expr_shape : (ts : T
   stmt_shape ts stmt rest (st.do_loop {c = c} {d = d} {test = t} word body again test end) = marked m.Do word refl refl
       (omega (arith, takes_one word, (deeper_shape _ _ _ body).shorter, takes_one again, test_shorter is_expr expr_shape c t d test, takes_one end))
   stmt_shape ts stmt rest (st.for_loop {b = b} {c = c} {d = d} {e = x} {f = f} {start = o} {test = t} {next = n} word left start test first next right body) = marked m.For word refl refl
-      (omega (arith, takes_one word, takes_one left, for_start_shorter is_expr expr_shape b o c start, maybe_shorter is_expr expr_shape c t d test, takes_one first,
-          maybe_shorter is_expr expr_shape x n f next, takes_one right, (deeper_shape _ _ _ body).shorter))
+      (omega (
+        arith,
+        takes_one word,
+        takes_one left,
+        for_start_shorter is_expr expr_shape b o c start,
+        maybe_shorter is_expr expr_shape c t d test,
+        takes_one first,
+        maybe_shorter is_expr expr_shape x n f next,
+        takes_one right,
+        (deeper_shape _ _ _ body).shorter,
+      ))
   stmt_shape ts stmt rest (st.breaks word end) = marked m.Break word refl refl (omega (arith, takes_one word, takes_one end))
   stmt_shape ts stmt rest (st.continues word end) = marked m.Continue word refl refl (omega (arith, takes_one word, takes_one end))
   stmt_shape ts stmt rest (st.returns {a = a} {b = b} {value = v} word value end) = marked m.Return word refl refl

@@ -1,5 +1,5 @@
 -- Statements and items that are read are in the grammar.
-use Rattle.std.proofs.Common.{◌≡◌, ◌<◌, ◌≤◌, ◌+◌, ◌∷◌, ◌++◌, ◌∙◌, ◌==◌, [], if◌then◌else◌, List, Option, length, subst, suc, sym, zero, ℕ}
+use Rattle.std.proofs.Common.{◌≡◌, ◌+◌, ◌∷◌, ◌++◌, ◌∙◌, [], List, Option, length, subst, suc, sym, zero, ℕ}
 use Rattle.c11_ast.specs.declared.expr.Expr.{Expr}
 use Rattle.c11_ast.specs.declared.place.Spot.{Spot}
 use Rattle.c11_ast.specs.declared.place.Word.{Word}
@@ -13,7 +13,7 @@ use Rattle.c11_grammar.specs.Declarations.{IsMutexVar, IsVar}
 use Rattle.c11_grammar.specs.Expressions.{IsAssign, parts}
 use Rattle.c11_grammar.specs.Laws.{Holds, Sound, finds, nothing}
 use Rattle.c11_grammar.specs.Programs.{IsGlobals, IsItem}
-use Rattle.c11_grammar.specs.Reading.{◌>>=◌, Out, arm_of, arms, assign_of, block_after, block_item_of, block_items, decl_reader, declared_of, define_after, do_after, evaluated, evaluation, for_after, for_start_of, function_after, global_after, globals_of, head_of, if_after, item_of, jump_of, loop_of, maybe_of, mutex_var, readers, return_after, skip, started_var, stmt_of, stmt_reader, test_of, while_after}
+use Rattle.c11_grammar.specs.Reading.{Out, arm_of, arms, assign_of, block_after, block_item_of, block_items, decl_reader, declared_of, define_after, do_after, evaluated, evaluation, for_after, for_start_of, function_after, global_after, globals_of, head_of, if_after, item_of, jump_of, loop_of, maybe_of, mutex_var, readers, return_after, skip, started_var, stmt_of, stmt_reader, test_of, while_after}
 use Rattle.c11_grammar.specs.Statements.{IsArm, IsBlock, IsBlockItem, IsBlockItems, IsElse, IsForStart, IsMaybe, IsStmt, IsTest, MoreArms, decl_at, stmt_at}
 use Rattle.c11_grammar.specs.Tokens.{Begins, MayTake, Named, Takes, Tokens, declares}
 use Rattle.c11_grammar.specs.Types.{IsAnswer}
@@ -115,13 +115,13 @@ module _ (is_expr : Tokens → Expr → Tokens → Type 0) (expr : Tokens → Ou
       holds_given (take_sound m.For ts) (
       jump_sound ts)
       λ p word. holds_bind (take_sound m.LeftParen p.1) λ q left.
-          holds_bind (for_start_sound is_expr expr expr_sound q.1) λ start h.
-          holds_bind (maybe_sound is_expr expr expr_sound m.Semicolon start.1) λ t test.
-          holds_bind (maybe_sound is_expr expr expr_sound m.RightParen t.1) λ n next.
-          holds_bind (deeper_sound n.1) λ b body.
-          finds (st.for_loop word left h test.2 test.3 next.2 next.3 body))
+      holds_bind (for_start_sound is_expr expr expr_sound q.1) λ start h.
+      holds_bind (maybe_sound is_expr expr expr_sound m.Semicolon start.1) λ t test.
+      holds_bind (maybe_sound is_expr expr expr_sound m.RightParen t.1) λ n next.
+      holds_bind (deeper_sound n.1) λ b body.
+      finds (st.for_loop word left h test.2 test.3 next.2 next.3 body))
       λ p word. holds_bind (deeper_sound p.1) λ b body. holds_bind (take_sound m.While b.1) λ q again. holds_bind (test_sound is_expr expr expr_sound q.1) λ t test.
-          holds_bind (take_sound m.Semicolon t.1) λ r end. finds (st.do_loop word body again test end))
+      holds_bind (take_sound m.Semicolon t.1) λ r end. finds (st.do_loop word body again test end))
       λ p word. holds_bind (test_sound is_expr expr expr_sound p.1) λ t test. holds_bind (deeper_sound t.1) λ b body. finds (st.while_loop word test body)
 
   stmt_sound : Sound (IsStmt is_expr is_decl is_deeper) (stmt_of expr decl deeper)
@@ -132,7 +132,7 @@ module _ (is_expr : Tokens → Expr → Tokens → Type 0) (expr : Tokens → Ou
       holds_given (take_sound m.If ts) (
       loop_sound ts)
       λ p word. holds_bind (arm_sound p.1) λ first arm. holds_bind (arms_sound (length first.1 + 1) (first.0 ∷ []) first.1) λ x h.
-          finds (subst (λ (l : List Arm). IsStmt is_expr is_decl is_deeper ts (s.If p.0.1 l x.0.1) x.1) (sym h.2) (st.chosen word arm h.3 h.4)))
+      finds (subst (λ (l : List Arm). IsStmt is_expr is_decl is_deeper ts (s.If p.0.1 l x.0.1) x.1) (sym h.2) (st.chosen word arm h.3 h.4)))
       λ p end. finds (st.empty end))
       λ p left. holds_bind (block_sound is_decl decl decl_is is_deeper deeper deeper_sound ts p.0.1 p.1 left) λ b block. finds (st.nested block)
 

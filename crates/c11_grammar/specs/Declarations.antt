@@ -1,5 +1,5 @@
 -- Declarations (C11 6.7), one case for each production.
-use Rattle.std.specs.Prelude.{◌≡◌, Bool, true, false, List, [], ◌∷◌, Option, Some, None}
+use Rattle.std.specs.Prelude.{Bool, true, false, List, [], Option, Some, None}
 use Rattle.c11_num.specs.Ranges.{TypedNumber}
 use Rattle.c11_num.specs.declared.value.CType.{CType}
 use Rattle.c11_ast.specs.declared.place.Spot.{Spot}

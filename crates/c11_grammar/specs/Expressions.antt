@@ -3,7 +3,7 @@
 -- An expression has room for a number of levels, its own one among them. `deeper` are the parts with room for one level less: an
 -- expression in parentheses, in brackets or as an argument, the operand of a prefix operator or a cast, the second and the third operand
 -- of `?:`, and the right side of an assignment. So the room is what the rule of depth leaves.
-use Rattle.std.specs.Prelude.{◌≡◌, ℕ, zero, suc, Bool, true, false, List, [], ◌∷◌, Option, Some, None}
+use Rattle.std.specs.Prelude.{ℕ, zero, suc, Bool, true, false, List, [], ◌∷◌, Option, Some, None}
 use Rattle.c11_num.specs.Ranges.{TypedNumber}
 use Rattle.c11_num.specs.declared.kind.BinaryOp.{BinaryOp}
 use Rattle.c11_ast.specs.declared.place.Spot.{Spot}

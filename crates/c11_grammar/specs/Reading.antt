@@ -3,14 +3,12 @@ use Rattle.std.specs.Prelude.{ℕ, zero, suc, ◌+◌, Bool, true, false, List, 
 use Rattle.c11_num.specs.Ranges.{TypedNumber}
 use Rattle.c11_num.specs.declared.value.CType.{CType}
 use Rattle.c11_num.specs.declared.value.CType.TheVariants as c
-use Rattle.c11_num.specs.declared.kind.BinaryOp.{BinaryOp}
 use Rattle.c11_ast.specs.declared.place.Spot.{Spot}
 use Rattle.c11_ast.specs.declared.place.Word.{Word}
 use Rattle.c11_ast.specs.declared.place.Known.{Known}
 use Rattle.c11_ast.specs.declared.place.Known.TheVariants as known
 use Rattle.c11_ast.specs.declared.place.Constant.{Constant}
 use Rattle.c11_ast.specs.declared.place.Place.{Place}
-use Rattle.c11_ast.specs.declared.expr.Infix.{Infix}
 use Rattle.c11_ast.specs.declared.expr.CastTo.{CastTo}
 use Rattle.c11_ast.specs.declared.expr.CastTo.TheVariants as to
 use Rattle.c11_ast.specs.declared.expr.Target.{Target, out-Target}

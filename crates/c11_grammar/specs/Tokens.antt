@@ -15,7 +15,6 @@ use Rattle.c11_ast.specs.declared.expr.Prefix.TheVariants as p
 use Rattle.c11_grammar.specs.contracts.token.Mark.{the_type}
 use Rattle.c11_grammar.specs.declared.token.Mark.{Mark}
 use Rattle.c11_grammar.specs.declared.token.Mark.TheVariants as m
-use Rattle.c11_grammar.specs.declared.token.Sort.{Sort}
 use Rattle.c11_grammar.specs.declared.token.Sort.TheVariants as sort
 use Rattle.c11_grammar.specs.declared.token.Lexeme.{Lexeme}
 

@@ -1,5 +1,5 @@
 -- Types (C11 6.7.2). A relation `.. tokens part rest` says that the tokens are this part, and then the rest.
-use Rattle.std.specs.Prelude.{◌≡◌, List, [], ◌∷◌, Option, Some, None}
+use Rattle.std.specs.Prelude.{Option, Some, None}
 use Rattle.c11_num.specs.declared.value.CType.{CType}
 use Rattle.c11_num.specs.declared.value.CType.TheVariants as c
 use Rattle.c11_ast.specs.declared.place.Spot.{Spot}

@@ -1,4 +1,4 @@
-use Rattle.std.proofs.Common.{◌≡◌, [], ℕ, ◌+◌, ◌-◌, ◌*◌, length}
+use Rattle.std.proofs.Common.{◌≡◌, [], ◌+◌, ◌-◌, ◌*◌, length}
 use Rattle.c11_grammar.specs.Reading.{readers, commas, links, binary_of}
 use Rattle.c11_expressions.proofs.descent.+descent.Given as goal
 
