@@ -35,9 +35,9 @@ one_tree source tokens one other a b = ap (λ (items : List Item). record { item
 pub some_answer : SomeAnswer
 some_answer source tokens = by_outcome source tokens (runs.some_outcome (lexemes source tokens))
   where
-  by_outcome : (source : List ℕ) (tokens : List Token) → law.Outcome (lexemes source tokens) → Answer source tokens
-  by_outcome source tokens (law.is_program items run) = trees.tree (record { items = items }) run
-  by_outcome source tokens (law.is_none place none) = trees.none place.line place.column none
+    by_outcome : (source : List ℕ) (tokens : List Token) → law.Outcome (lexemes source tokens) → Answer source tokens
+    by_outcome source tokens (law.is_program items run) = trees.tree (record { items = items }) run
+    by_outcome source tokens (law.is_none place none) = trees.none place.line place.column none
 
 -- Where there is a program, memory alone stands in the way.
 pub only_memory : (source : List ℕ) (tokens : List Token) (program : Program) (error : SyntaxFault) → Tree source tokens program → IsFault source tokens error → error ≡ fault.NoMemory

@@ -73,7 +73,9 @@ fn start(tokens: &[Lexeme]) -> Result<(Constant, &[Lexeme]), Stop>
     let (inner, rest) = signed(rest)?;
     let (_, rest) = expect(Mark::RightParen, rest)?;
     let Constant {
-        negative, value, ..
+        negative,
+        value,
+        ..
     } = inner;
     Ok((
         Constant {
@@ -177,7 +179,11 @@ fn var<'a>(alloc: Global, tokens: &'a [Lexeme], mutex: bool) -> Result<(Var, &'a
 }
 
 /// Globals of one kind, with commas between them.
-pub fn vars<'a>(alloc: Global, tokens: &'a [Lexeme], mutex: bool) -> Result<(Many<Var>, &'a [Lexeme]), Stop>
+pub fn vars<'a>(
+    alloc: Global,
+    tokens: &'a [Lexeme],
+    mutex: bool,
+) -> Result<(Many<Var>, &'a [Lexeme]), Stop>
     ensures { Gives (λ x. (x.0, x.1.now)) result (spec.commas (spec.var_of mutex) (length tokens.now) [] tokens.now) }
 {
     let mut found = Many::new(alloc);
@@ -212,7 +218,10 @@ fn param(tokens: &[Lexeme]) -> Result<(Param, &[Lexeme]), Stop>
 }
 
 /// Parameters with commas between them.
-fn comma_params<'a>(alloc: Global, tokens: &'a [Lexeme]) -> Result<(Many<Param>, &'a [Lexeme]), Stop>
+fn comma_params<'a>(
+    alloc: Global,
+    tokens: &'a [Lexeme],
+) -> Result<(Many<Param>, &'a [Lexeme]), Stop>
     ensures { Gives (λ x. (x.0, x.1.now)) result (spec.commas spec.param_of (length tokens.now) [] tokens.now) }
 {
     let mut found = Many::new(alloc);
@@ -255,7 +264,11 @@ pub fn params<'a>(alloc: Global, tokens: &'a [Lexeme]) -> Result<(Many<Param>, &
 
 /// A local.
 #[tactic(auto, unfolding(c11_grammar::specs::Reading::given, c11_grammar::specs::Reading::and_then, c11_grammar::specs::Reading::local_of))]
-fn local<'a>(alloc: Global, tokens: &'a [Lexeme], deeper: u32) -> Result<(Local, &'a [Lexeme]), Stop>
+fn local<'a>(
+    alloc: Global,
+    tokens: &'a [Lexeme],
+    deeper: u32,
+) -> Result<(Local, &'a [Lexeme]), Stop>
     ensures { Gives (λ x. (x.0, x.1.now)) result (spec.local_of (spec.assign_of (spec.readers deeper)) tokens.now) }
 {
     let (word, rest) = name(tokens)?;
@@ -272,7 +285,11 @@ fn local<'a>(alloc: Global, tokens: &'a [Lexeme], deeper: u32) -> Result<(Local,
 }
 
 /// Locals with commas between them.
-fn locals<'a>(alloc: Global, tokens: &'a [Lexeme], deeper: u32) -> Result<(Many<Local>, &'a [Lexeme]), Stop>
+fn locals<'a>(
+    alloc: Global,
+    tokens: &'a [Lexeme],
+    deeper: u32,
+) -> Result<(Many<Local>, &'a [Lexeme]), Stop>
     ensures { Gives (λ x. (x.0, x.1.now)) result (spec.commas (spec.local_of (spec.assign_of (spec.readers deeper))) (length tokens.now) [] tokens.now) }
 {
     let mut found = Many::new(alloc);
@@ -307,7 +324,11 @@ fn places<'a>(alloc: Global, tokens: &'a [Lexeme]) -> Result<(Many<Place>, &'a [
 
 /// A declaration in a block, with room for `deeper` levels below it.
 #[tactic(auto, unfolding(c11_grammar::specs::Reading::given, c11_grammar::specs::Reading::and_then, c11_grammar::specs::Reading::decl_of))]
-pub fn declaration<'a>(alloc: Global, tokens: &'a [Lexeme], deeper: u32) -> Result<(Stmt, &'a [Lexeme]), Stop>
+pub fn declaration<'a>(
+    alloc: Global,
+    tokens: &'a [Lexeme],
+    deeper: u32,
+) -> Result<(Stmt, &'a [Lexeme]), Stop>
     ensures { Gives (λ x. (x.0, x.1.now)) result (spec.decl_of (spec.assign_of (spec.readers deeper)) tokens.now) }
 {
     if let Some((spot, rest)) = take(Mark::ThrdT, tokens) {

@@ -15,7 +15,10 @@ use std::alloc::Global;
 
 /// The type and the names of a global declaration.
 #[tactic(auto, unfolding(c11_grammar::specs::Reading::given, c11_grammar::specs::Reading::and_then, c11_grammar::specs::Reading::globals_of))]
-fn globals<'a>(alloc: Global, tokens: &'a [Lexeme]) -> Result<(GlobalKind, Many<Var>, &'a [Lexeme]), Stop>
+fn globals<'a>(
+    alloc: Global,
+    tokens: &'a [Lexeme],
+) -> Result<(GlobalKind, Many<Var>, &'a [Lexeme]), Stop>
     ensures { Gives (λ x. ((x.0, x.1), x.2.now)) result (spec.globals_of tokens.now) }
 {
     if let Some((_, rest)) = take(Mark::MtxT, tokens) {
@@ -80,7 +83,11 @@ fn global<'a>(alloc: Global, spot: Spot, tokens: &'a [Lexeme]) -> Result<(Item, 
 
 /// A function or a global declaration, behind `static`.
 #[tactic(auto, unfolding(c11_grammar::specs::Reading::given, c11_grammar::specs::Reading::declared_of))]
-fn declared<'a>(alloc: Global, spot: Spot, tokens: &'a [Lexeme]) -> Result<(Item, &'a [Lexeme]), Stop>
+fn declared<'a>(
+    alloc: Global,
+    spot: Spot,
+    tokens: &'a [Lexeme],
+) -> Result<(Item, &'a [Lexeme]), Stop>
     ensures { Gives (λ x. (x.0, x.1.now)) result (spec.declared_of spot tokens.now) }
 {
     match head(tokens) {

@@ -7,6 +7,8 @@ pub mod laws;
 mod mark;
 mod sort;
 mod stmt;
+#[cfg(test)]
+mod tests;
 mod whole;
 
 pub use whole::{SyntaxFault, parse};

@@ -84,7 +84,11 @@ fn return_after<'a>(
 
 /// An expression as a statement.
 #[tactic(auto, unfolding(c11_grammar::specs::Reading::and_then, c11_grammar::specs::Reading::evaluated))]
-fn evaluated<'a>(alloc: Global, tokens: &'a [Lexeme], deeper: u32) -> Result<(Stmt, &'a [Lexeme]), Stop>
+fn evaluated<'a>(
+    alloc: Global,
+    tokens: &'a [Lexeme],
+    deeper: u32,
+) -> Result<(Stmt, &'a [Lexeme]), Stop>
     ensures { Gives (λ x. (x.0, x.1.now)) result (spec.evaluated (spec.assign_of (spec.readers deeper)) (spec.decl_reader deeper) (spec.stmt_reader deeper) tokens.now) }
 {
     let (expr, rest) = assign(alloc, tokens, deeper)?;
@@ -123,7 +127,11 @@ fn inner<'a>(alloc: Global, tokens: &'a [Lexeme], room: u32) -> Result<(Stmt, &'
 }
 
 /// A declaration one level deeper.
-fn inner_declaration<'a>(alloc: Global, tokens: &'a [Lexeme], room: u32) -> Result<(Stmt, &'a [Lexeme]), Stop>
+fn inner_declaration<'a>(
+    alloc: Global,
+    tokens: &'a [Lexeme],
+    room: u32,
+) -> Result<(Stmt, &'a [Lexeme]), Stop>
     ensures { Gives (λ x. (x.0, x.1.now)) result (spec.decl_reader room tokens.now) }
 {
     if room == 0 {
@@ -135,7 +143,11 @@ fn inner_declaration<'a>(alloc: Global, tokens: &'a [Lexeme], room: u32) -> Resu
 /// A declaration or a statement in a block.
 #[cycle(stmt)]
 #[tactic(auto, unfolding(c11_grammar::specs::Reading::given, c11_grammar::specs::Reading::block_item_of))]
-fn block_item<'a>(alloc: Global, tokens: &'a [Lexeme], deeper: u32) -> Result<(Stmt, &'a [Lexeme]), Stop>
+fn block_item<'a>(
+    alloc: Global,
+    tokens: &'a [Lexeme],
+    deeper: u32,
+) -> Result<(Stmt, &'a [Lexeme]), Stop>
     ensures { Gives (λ x. (x.0, x.1.now)) result (spec.block_item_of (spec.decl_reader deeper) (spec.stmt_reader deeper) tokens.now) }
 {
     match declares(tokens) {

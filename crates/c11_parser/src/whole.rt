@@ -48,7 +48,7 @@ impl From<AllocError> for SyntaxFault {
 }
 
 /// The program that these tokens are.
-fn program(alloc: Global, tokens: &[Lexeme]) -> Result<Program, SyntaxFault>
+pub fn program(alloc: Global, tokens: &[Lexeme]) -> Result<Program, SyntaxFault>
     ensures tree { IfOk result (λ program. IsProgram tokens.now program.items) }
     ensures fault { IfErr result (λ fault. Misses tokens.now fault) }
 {
