@@ -1,10 +1,11 @@
 -- Trees of a source.
-use Rattle.std.proofs.Common.{◌≡◌, ◌<◌, ◌≤◌, ℕ, zero, suc, Result, Ok, Err, IfOk, IfErr, MatchResult, List, [], ◌∷◌, length, All, refl, ap, arith}
+use Rattle.std.proofs.Common.{◌≡◌, ◌≢◌, ◌<◌, ◌≤◌, ℕ, zero, suc, Result, Ok, Err, IfOk, IfErr, MatchResult, List, [], ◌∷◌, length, All, refl, ap, arith}
 use Rattle.std.specs.List.{AllByRecursion}
 use Rattle.std.proofs.lemmas.List.Elements.{All-from_recursion}
 use Rattle.c11_lexer.specs.declared.token.Token.{Token}
 use Rattle.c11_lexer.specs.Scan.{Rise}
 use Rattle.c11_lexer.specs.Scan as scan
+use Rattle.c11_ast.specs.declared.place.Spot.{Spot}
 use Rattle.c11_ast.specs.declared.item.Program.{Program}
 use Rattle.c11_ast.specs.declared.item.Item.{Item}
 use Rattle.c11_grammar.specs.declared.token.Lexeme.{Lexeme}
@@ -13,7 +14,7 @@ use Rattle.c11_grammar.proofs.Runs as runs
 use Rattle.c11_parser.specs.declared.whole.SyntaxFault.{SyntaxFault}
 use Rattle.c11_parser.specs.declared.whole.SyntaxFault.TheVariants as fault
 use Rattle.c11_parser.specs.Sorting.{IsInside, lexemes}
-use Rattle.c11_parser.specs.Trees.{Tree, NoTree, IsFault, OneTree, Answer, SomeAnswer}
+use Rattle.c11_parser.specs.Trees.{Tree, NoTree, IsFault, OneTree, OnePlace, Answer, SomeAnswer}
 use Rattle.c11_parser.specs.Trees as trees
 
 rise_ends : (from last : ℕ) (tokens : List Token) → Rise from tokens last → from ≤ last
@@ -49,3 +50,19 @@ pub exact : (source : List ℕ) (tokens : List Token) (result : Result Program S
     → (program : Program) → Tree source tokens program → MatchResult result (λ answer. answer ≡ program) (λ error. error ≡ fault.NoMemory)
 exact source tokens (Ok answer) tree none program there = one_tree source tokens answer program tree there
 exact source tokens (Err error) tree none program there = only_memory source tokens program error there none
+
+same_place : (source : List ℕ) (tokens : List Token) (line column l c : ℕ) → NoTree source tokens line column → NoTree source tokens l c → fault.Item line column ≡ fault.Item l c
+same_place source tokens line column l c a b =
+    ap (λ (s : Spot). fault.Item s.line s.column) (runs.one_place (lexemes source tokens) (record { line = line; column = column }) (record { line = l; column = c }) a b)
+
+pub one_place : OnePlace
+one_place source tokens line column l c a b =
+    let same = runs.one_place (lexemes source tokens) (record { line = line; column = column }) (record { line = l; column = c }) a b in
+    (ap (λ (s : Spot). s.line) same, ap (λ (s : Spot). s.column) same)
+
+-- Where there is none, its place is answered.
+pub refused : (source : List ℕ) (tokens : List Token) (result : Result Program SyntaxFault) → IfOk result (λ answer. Tree source tokens answer) → IfErr result (λ error. IsFault source tokens error)
+    → (line column : ℕ) → NoTree source tokens line column → MatchResult result (λ answer. ⊥) (λ error. error ≢ fault.NoMemory → error ≡ fault.Item line column)
+refused source tokens (Ok answer) tree none line column there = there.none answer.items tree
+refused source tokens (Err (fault.Item l c)) tree none line column there = λ other. same_place source tokens l c line column none there
+refused source tokens (Err fault.NoMemory) tree none line column there = λ other. absurd (other refl)

@@ -38,3 +38,7 @@ pub data Answer (source : List ℕ) (tokens : List Token) : Type 0 where
 
 abbrev pub SomeAnswer : Type 0
 SomeAnswer = (source : List ℕ) (tokens : List Token) → Answer source tokens
+
+-- They have one such place at most.
+abbrev pub OnePlace : Type 0
+OnePlace = (source : List ℕ) (tokens : List Token) (line column l c : ℕ) → NoTree source tokens line column → NoTree source tokens l c → (line ≡ l) × (column ≡ c)

@@ -1,11 +1,11 @@
 //! Whole programs.
 
-ghost use Rattle.std.specs.Prelude.{◌≡◌, length, IfOk, IfErr, MatchResult};
+ghost use Rattle.std.specs.Prelude.{◌≡◌, ◌≢◌, ℕ, length, IfOk, IfErr, MatchResult};
 ghost use Rattle.c11_ast.specs.declared.item.Program.{Program};
 ghost use Rattle.c11_lexer.specs.Scan.{Rise};
 ghost use Rattle.c11_grammar.specs.Programs.{IsProgram};
 ghost use Rattle.c11_parser.specs.declared.whole.SyntaxFault.TheVariants as fault_of;
-ghost use Rattle.c11_parser.specs.Trees.{Tree, IsFault, Misses};
+ghost use Rattle.c11_parser.specs.Trees.{Tree, NoTree, IsFault, Misses};
 
 use crate::item::item;
 use crate::sort::lexemes;
@@ -81,6 +81,10 @@ pub fn parse(alloc: Global, source: &[u8], tokens: &[Token]) -> Result<Program, 
     // A program of the tokens is what comes out, unless memory runs out.
     ensures exact { (program : Program) → Tree source.now tokens.now program
         → MatchResult result (λ answer. answer ≡ program) (λ fault. fault ≡ fault_of.NoMemory) }
+
+    // Where there is none, the place is what comes out, unless memory runs out.
+    ensures refused { (line column : ℕ) → NoTree source.now tokens.now line column
+        → MatchResult result (λ answer. ⊥) (λ fault. fault ≢ fault_of.NoMemory → fault ≡ fault_of.Item line column) }
 {
     let lexemes = lexemes(alloc, source, tokens)?;
     program(alloc, lexemes.as_slice())

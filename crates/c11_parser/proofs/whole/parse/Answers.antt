@@ -1,5 +1,5 @@
 use Rattle.std.proofs.Common.{rules, ◌≡◌}
-use Rattle.c11_parser.proofs.Sources.{rise_inside, exact}
+use Rattle.c11_parser.proofs.Sources.{rise_inside, exact, refused}
 use Rattle.c11_parser.specs.Sorting.{lexemes}
 use Rattle.c11_parser.proofs.whole.parse.Goals as goal
 
@@ -10,3 +10,8 @@ pub returns-clause-exact : goal.returns-clause-exact
 returns-clause-exact c =
     let sorted : c.as_slice.result.now ≡ lexemes c.args.source.now c.args.tokens.now = search rules in
     exact c.args.source.now c.args.tokens.now c.program.result (search rules) (search rules)
+
+pub returns-clause-refused : goal.returns-clause-refused
+returns-clause-refused c =
+    let sorted : c.as_slice.result.now ≡ lexemes c.args.source.now c.args.tokens.now = search rules in
+    refused c.args.source.now c.args.tokens.now c.program.result (search rules) (search rules)
