@@ -1,6 +1,6 @@
--- What a read-modify-write writes: the result modulo two to the width (C11 7.17.7.5; for signed types in two's complement).
-use Rattle.std.specs.Prelude.{ℕ, ◌+◌, ◌-◌, ◌%◌, ◌^◌, ℤ, pos, bit_and, bit_or, bit_xor}
-use Rattle.std.specs.Int.{cast_signed, cast_unsigned, w32, w64}
+-- Numbers modulo two to the width: conversions, and what a read-modify-write writes (C11 6.3.1.3 and 7.17.7.5; signed types in two's complement).
+use Rattle.std.specs.Prelude.{ℕ, ◌+◌, ◌-◌, ◌%◌, ◌^◌, ℤ, pos, unsigned_abs, bit_and, bit_or, bit_xor}
+use Rattle.std.specs.Int.{cast_signed, int_rem_euclid, w32, w64}
 use Rattle.c11_num.specs.Ranges.{TypedNumber}
 use Rattle.c11_num.specs.declared.value.CType.{CType}
 use Rattle.c11_num.specs.declared.value.CType.TheVariants.{Int, Unsigned, Long, ULong}
@@ -13,12 +13,9 @@ width_of Unsigned = 32
 width_of Long = 64
 width_of ULong = 64
 
--- the bits of a number in two's complement, as a number below two to the width
+-- the bits of a number in two's complement: the number modulo two to the width, also where the type does not hold it
 abbrev pub bits_of : CType → ℤ → ℕ
-bits_of Int number = cast_unsigned w32 number
-bits_of Unsigned number = cast_unsigned w32 number
-bits_of Long number = cast_unsigned w64 number
-bits_of ULong number = cast_unsigned w64 number
+bits_of ctype number = unsigned_abs (int_rem_euclid number (pos (2 ^ width_of ctype)))
 
 -- the number of the type with these bits
 abbrev pub of_bits : CType → ℕ → ℤ
@@ -36,7 +33,11 @@ combined And width old operand = bit_and old operand
 combined Or width old operand = bit_or old operand
 combined Xor width old operand = bit_xor old operand
 
--- the new value of a read-modify-write; both values are of the type of the cell
+-- the value in another type: the same number modulo two to the width (C11 6.3.1.3; for signed types this project's own)
+unfoldable pub converted : CType → TypedNumber → TypedNumber
+converted to value = record { ctype = to; number = of_bits to (bits_of to value.number) }
+
+-- the new value of a read-modify-write; an operand of another type counts modulo two to the width, as if converted first
 unfoldable pub wrapping : RmwKind → TypedNumber → TypedNumber → TypedNumber
 wrapping kind old operand = record {
   ctype = old.ctype;

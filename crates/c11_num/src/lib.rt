@@ -6,6 +6,7 @@
 
 mod kind;
 mod memory;
+mod modular;
 #[cfg(test)]
 mod tests;
 mod text;
@@ -13,5 +14,6 @@ mod value;
 
 pub use kind::{BinaryOp, RmwKind};
 pub use memory::NoMemory;
+pub use modular::{convert, wrapping};
 pub use text::{Bytes, Name};
 pub use value::{CType, CValue, in_range};

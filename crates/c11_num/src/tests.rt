@@ -1,4 +1,4 @@
-use crate::{Bytes, CType, CValue, Name, NoMemory, in_range};
+use crate::{Bytes, CType, CValue, Name, NoMemory, RmwKind, convert, in_range, wrapping};
 use std::alloc::AllocError;
 use std::test::Fail;
 
@@ -26,6 +26,51 @@ fn each_type_holds_its_ends_and_nothing_past_them(rt: HostRuntime) {
     assert!(rt; value.ctype() == CType::Int);
     assert_eq!(rt; value.number(), -5);
     assert!(rt; value != CValue::new(CType::Long, -5));
+}
+
+#[test]
+fn read_modify_writes_and_conversions_wrap(rt: HostRuntime) {
+    let least_long = -9_223_372_036_854_775_808;
+    let most_long = 9_223_372_036_854_775_807;
+    let most_ulong = 18_446_744_073_709_551_615;
+    let rows: [(RmwKind, CType, i128, i128, i128); 12] = [
+        (RmwKind::Exchange, CType::Long, 1, -5, -5),
+        (RmwKind::Add, CType::Int, 2_147_483_647, 1, -2_147_483_648),
+        (RmwKind::Add, CType::Unsigned, 4_294_967_295, 3, 2),
+        (RmwKind::Add, CType::Long, most_long, 1, least_long),
+        (
+            RmwKind::Add,
+            CType::ULong,
+            most_ulong,
+            most_ulong,
+            18_446_744_073_709_551_614,
+        ),
+        (RmwKind::Sub, CType::Int, -2_147_483_648, 1, 2_147_483_647),
+        (RmwKind::Sub, CType::Unsigned, 0, 1, 4_294_967_295),
+        (RmwKind::Sub, CType::Long, 5, 7, -2),
+        (RmwKind::Sub, CType::ULong, 0, 1, most_ulong),
+        (RmwKind::And, CType::Int, -4, 6, 4),
+        (RmwKind::Or, CType::Int, -8, 5, -3),
+        (RmwKind::Xor, CType::Long, -1, 5, -6),
+    ];
+    for (kind, ctype, old, operand, new) in rows {
+        assert!(rt; in_range(ctype, old) && in_range(ctype, operand));
+        let value = wrapping(kind, CValue::new(ctype, old), CValue::new(ctype, operand));
+        assert!(rt; value.ctype() == ctype);
+        assert_eq!(rt; value.number(), new, "{kind:?} {old} {operand}");
+    }
+    let conversions: [(CType, i128, CType, i128); 4] = [
+        (CType::Long, 4_294_967_295, CType::Int, -1),
+        (CType::Int, -1, CType::Unsigned, 4_294_967_295),
+        (CType::Int, -1, CType::ULong, most_ulong),
+        (CType::ULong, most_ulong, CType::Long, -1),
+    ];
+    for (from, number, to, new) in conversions {
+        assert!(rt; in_range(from, number));
+        let value = convert(CValue::new(from, number), to);
+        assert!(rt; value.ctype() == to);
+        assert_eq!(rt; value.number(), new, "{number}");
+    }
 }
 
 #[test]
