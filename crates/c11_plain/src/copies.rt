@@ -1,8 +1,9 @@
 ghost use Rattle.std.specs.Prelude.{◌≡◌, IfOk};
-ghost use Rattle.c11_events.specs.Offered.{extended};
+ghost use Rattle.c11_events.specs.Offered.{extended, op_reading};
 
+use crate::operations::reply_of;
 use crate::tables::count_of;
-use c11_events::{Event, EventKind};
+use c11_events::{Entry, Event, EventKind, Offers, Op};
 use c11_num::NoMemory;
 use std::alloc::Global;
 
@@ -82,24 +83,26 @@ fn copy_events(alloc: Global, events: &[Event]) -> Result<Vec<Event>, NoMemory>
     Ok(copies)
 }
 
-/// The events with one more, of the thread, that reads the store.
+/// The events with one more: the operation of the thread, as it is when it reads the store.
 pub(crate) fn extended(
     alloc: Global,
     events: &[Event],
     thread: u32,
-    kind: &EventKind,
+    op: &Op,
     from: u32,
 ) -> Result<Vec<Event>, NoMemory>
-    ensures { IfOk result (λ longer. longer.items ≡ extended events.now thread (λ _. kind.now) from) }
+    ensures { IfOk result (λ longer. longer.items ≡ extended events.now thread (op_reading events.now op.now) from) }
 {
-    let number = count_of(events)?;
-    let kind = copy_kind(kind)?;
-    let mut longer = copy_events(alloc, events)?;
-    longer.push(Event {
-        number,
+    let entry = Entry {
+        number: count_of(events)?,
         thread,
-        kind,
+        line: 0,
+        op: op.copy()?,
+        reply: reply_of(events, op, from),
         from,
-    })?;
+        offered: Offers::new(Vec::new(alloc)),
+    };
+    let mut longer = copy_events(alloc, events)?;
+    longer.push(entry.event()?)?;
     Ok(longer)
 }

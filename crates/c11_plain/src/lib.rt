@@ -15,6 +15,7 @@ mod lawful;
 mod links;
 mod modification;
 mod offers;
+mod operations;
 mod orders;
 mod pairs;
 mod races;
@@ -28,14 +29,16 @@ mod standing;
 mod tables;
 #[cfg(test)]
 mod tests;
+mod values;
 
 pub use broken::Broken;
 pub use chain_lawful::is_chain_lawful;
-pub use chain_offers::{chain_offered, is_chain_offered};
+pub use chain_offers::chain_offered;
 pub use consistent::is_consistent;
 pub use happens::{happens_before, synchronizes_with};
 pub use lawful::{broken_rule, is_lawful};
-pub use offers::{is_offered, offered};
+pub use offers::offered;
 pub use pairs::Pairs;
 pub use races::racing;
 pub use reading::reads_earlier;
+pub use values::value_of;

@@ -1,8 +1,9 @@
+use crate::copies::extended;
 use crate::{
     Broken, broken_rule, chain_offered, happens_before, is_chain_lawful, is_consistent, is_lawful,
-    is_offered, offered, racing, reads_earlier, synchronizes_with,
+    offered, racing, reads_earlier, synchronizes_with, value_of,
 };
-use c11_events::{Event, EventKind, Order};
+use c11_events::{Event, EventKind, Op, Order};
 use c11_num::{CType, CValue, NoMemory, RmwKind};
 use rand_core::utils::NextWord;
 use rand_pcg::Pcg32;
@@ -15,6 +16,8 @@ use std::test::Fail;
 enum Act<'a> {
     Load(u32, Order, &'a [u32], u32),
     Add(u32, Order, &'a [u32], u32),
+    // A compare-exchange of the first cell from the one value to the other, seq_cst.
+    Exchange(i32, i32, &'a [u32], u32),
     Store(u32, Order),
     Fence(Order),
     Read,
@@ -23,27 +26,40 @@ enum Act<'a> {
     Join(u32),
 }
 
-fn one() -> CValue {
-    CValue::new(CType::Int, 1)
+fn int(number: i32) -> CValue {
+    CValue::new(CType::Int, i128::from(number))
 }
 
-fn load(cell: u32, order: Order) -> EventKind {
-    EventKind::AtomicLoad { cell, order }
+fn load(cell: u32, order: Order) -> Op {
+    Op::AtomicLoad { cell, order }
 }
 
-fn store(cell: u32, order: Order) -> EventKind {
-    let value = one();
-    EventKind::AtomicStore { cell, order, value }
-}
-
-fn add(cell: u32, order: Order) -> EventKind {
-    let operand = one();
-    EventKind::Rmw {
+fn add(cell: u32, order: Order) -> Op {
+    let operand = int(1);
+    Op::Rmw {
         cell,
         order,
         kind: RmwKind::Add,
         operand,
     }
+}
+
+fn exchange(cell: u32, success: Order, failure: Order, expected: i32, desired: i32) -> Op {
+    let expected = int(expected);
+    let desired = int(desired);
+    Op::CompareExchange {
+        cell,
+        success,
+        failure,
+        weak: false,
+        expected,
+        desired,
+    }
+}
+
+fn store(cell: u32, order: Order, number: i32) -> EventKind {
+    let value = int(number);
+    EventKind::AtomicStore { cell, order, value }
 }
 
 // One event more.
@@ -62,7 +78,15 @@ fn push(events: &mut Vec<Event>, thread: u32, kind: EventKind, from: u32) -> Res
 fn prelude(alloc: Global, cells: u32, threads: u32) -> Result<Vec<Event>, NoMemory> {
     let mut events = Vec::new(alloc);
     for cell in 0..cells {
-        push(&mut events, 0, EventKind::Init { cell, value: one() }, 0)?;
+        push(
+            &mut events,
+            0,
+            EventKind::Init {
+                cell,
+                value: int(0),
+            },
+            0,
+        )?;
     }
     push(&mut events, 0, EventKind::Begin, 0)?;
     for function in 0..threads {
@@ -78,26 +102,26 @@ fn prelude(alloc: Global, cells: u32, threads: u32) -> Result<Vec<Event>, NoMemo
     Ok(events)
 }
 
-// The thread's next event reads one of the stores that are offered to it, which are these in both ways.
+// The thread's next operation reads one of the stores that are offered to it, which are these in both ways.
 fn read(
     rt: &impl Abort,
     events: &mut Vec<Event>,
     thread: u32,
-    kind: EventKind,
+    op: &Op,
     offers: &[u32],
     from: u32,
 ) -> Result<(), Fail> {
     let alloc = *events.allocator();
-    let all = offered(alloc, events.as_slice(), thread, &kind)?;
+    let all = offered(alloc, events.as_slice(), thread, op)?;
     let number = events.len();
     assert_eq!(rt; all.as_slice(), offers, "behind event {number}");
-    let by_chains = chain_offered(alloc, events.as_slice(), thread, &kind)?;
+    let by_chains = chain_offered(alloc, events.as_slice(), thread, op)?;
     assert_eq!(rt;
         by_chains.as_slice(),
         offers,
         "by chains, behind event {number}"
     );
-    push(events, thread, kind, from)?;
+    *events = extended(alloc, events.as_slice(), thread, op, from)?;
     Ok(())
 }
 
@@ -114,18 +138,22 @@ fn play(
         let thread = *thread;
         match *act {
             Act::Load(cell, order, offers, from) => {
-                read(rt, &mut events, thread, load(cell, order), offers, from)?;
+                read(rt, &mut events, thread, &load(cell, order), offers, from)?;
             }
             Act::Add(cell, order, offers, from) => {
-                read(rt, &mut events, thread, add(cell, order), offers, from)?;
+                read(rt, &mut events, thread, &add(cell, order), offers, from)?;
             }
-            Act::Store(cell, order) => push(&mut events, thread, store(cell, order), 0)?,
+            Act::Exchange(expected, desired, offers, from) => {
+                let op = exchange(0, SEQ_CST, SEQ_CST, expected, desired);
+                read(rt, &mut events, thread, &op, offers, from)?;
+            }
+            Act::Store(cell, order) => push(&mut events, thread, store(cell, order, 1), 0)?,
             Act::Fence(order) => push(&mut events, thread, EventKind::Fence { order }, 0)?,
             Act::Read => push(&mut events, thread, EventKind::PlainRead { cell: 0 }, 0)?,
             Act::Write => {
                 let kind = EventKind::PlainWrite {
                     cell: 0,
-                    value: one(),
+                    value: int(1),
                 };
                 push(&mut events, thread, kind, 0)?;
             }
@@ -234,14 +262,30 @@ fn worked_rows_of_orders_and_chains(rt: HostRuntime) -> Result<(), Fail> {
 }
 
 #[test]
-fn a_compare_exchange_behind_an_addition_reads_the_addition(rt: HostRuntime) -> Result<(), Fail> {
+fn a_compare_exchange_writes_where_it_finds_what_it_expects(rt: HostRuntime) -> Result<(), Fail> {
     let alloc = rt.alloc();
-    let events = play(&rt, alloc, 1, 2, &[(1, Act::Add(0, RELAXED, &[1], 1))])?;
-    // It succeeds with the old value, and fails with the new one.
-    let success = add(0, SEQ_CST);
-    let failure = load(0, SEQ_CST);
-    assert!(rt; !is_offered(alloc, events.as_slice(), 2, &success, 0, 1)?);
-    assert!(rt; is_offered(alloc, events.as_slice(), 2, &failure, 0, 7)?);
+    // Behind an addition of 1 to 0. From 0 it fails with the addition alone, since two read-modify-writes do not read one store;
+    // from 1 it succeeds with the addition and fails with the first value.
+    let behind_addition: [(i32, &[u32], &[u32]); 2] = [(0, &[7], &[7]), (1, &[1, 7], &[8])];
+    for (expected, offers, last) in behind_addition {
+        let steps = [
+            (1, Act::Add(0, RELAXED, &[1], 1)),
+            (2, Act::Exchange(expected, 9, offers, 7)),
+            (2, Act::Load(0, RELAXED, last, 7)),
+        ];
+        play(&rt, alloc, 1, 2, &steps)?;
+    }
+    // Beside a store of 1, from 0: it succeeds with the first value, right behind which it then stands, and fails with the store.
+    let beside_store: [(u32, &[u32], i128); 2] = [(1, &[7, 8], 9), (7, &[7], 0)];
+    for (from, offers, written) in beside_store {
+        let steps = [
+            (1, Act::Store(0, RELAXED)),
+            (2, Act::Exchange(0, 9, &[1, 7], from)),
+            (2, Act::Load(0, RELAXED, offers, 7)),
+        ];
+        let events = play(&rt, alloc, 1, 2, &steps)?;
+        assert_eq!(rt; value_of(events.as_slice(), 8).number(), written);
+    }
     Ok(())
 }
 
@@ -388,29 +432,55 @@ fn drawn_order(words: &mut Pcg32) -> Order {
     }
 }
 
-// A load or a read-modify-write behind the events; both ways to say what is offered agree on it. Mostly it reads an offered
-// store, and now and then any event.
+// A number from 0 to 2.
+fn drawn_value(words: &mut Pcg32) -> i32 {
+    match draw(words, 3) {
+        0 => 0,
+        1 => 1,
+        _ => 2,
+    }
+}
+
+// A load, an addition or a compare-exchange.
+fn drawn_read(words: &mut Pcg32, cell: u32) -> Op {
+    let order = drawn_order(words);
+    match draw(words, 4) {
+        0 | 1 => load(cell, order),
+        2 => add(cell, order),
+        _ => exchange(
+            cell,
+            order,
+            drawn_order(words),
+            drawn_value(words),
+            drawn_value(words),
+        ),
+    }
+}
+
+// A read behind the events; both ways to say what is offered agree on it. Mostly it reads an offered store, and now and then any
+// event.
 fn draw_read(
     rt: &impl Abort,
     words: &mut Pcg32,
     events: &mut Vec<Event>,
     thread: u32,
-    kind: EventKind,
+    cell: u32,
 ) -> Result<(), Fail> {
     let alloc = *events.allocator();
-    let all = offered(alloc, events.as_slice(), thread, &kind)?;
-    let by_chains = chain_offered(alloc, events.as_slice(), thread, &kind)?;
+    let op = drawn_read(words, cell);
+    let all = offered(alloc, events.as_slice(), thread, &op)?;
+    let by_chains = chain_offered(alloc, events.as_slice(), thread, &op)?;
     assert_eq!(rt;
         all.as_slice(),
         by_chains.as_slice(),
-        "t{thread} {kind:?} behind {events:?}"
+        "t{thread} {op:?} behind {events:?}"
     );
     let place = words.next_word() as usize;
     let from = match all.get(place % all.len().max(1)) {
         Some(x) if draw(words, 6) > 0 => *x,
         _ => draw(words, 8),
     };
-    push(events, thread, kind, from)?;
+    *events = extended(alloc, events.as_slice(), thread, &op, from)?;
     Ok(())
 }
 
@@ -418,15 +488,15 @@ fn draw_read(
 fn draw_step(rt: &impl Abort, words: &mut Pcg32, events: &mut Vec<Event>) -> Result<(), Fail> {
     let thread = draw(words, 3);
     let cell = draw(words, 2);
-    let order = drawn_order(words);
     match draw(words, 6) {
-        0 | 1 => draw_read(rt, words, events, thread, load(cell, order)),
-        2 => draw_read(rt, words, events, thread, add(cell, order)),
+        0 | 1 | 2 => draw_read(rt, words, events, thread, cell),
         3 | 4 => {
-            push(events, thread, store(cell, order), 0)?;
+            let kind = store(cell, drawn_order(words), drawn_value(words));
+            push(events, thread, kind, 0)?;
             Ok(())
         }
         _ => {
+            let order = drawn_order(words);
             push(events, thread, EventKind::Fence { order }, 0)?;
             Ok(())
         }
@@ -441,7 +511,15 @@ fn chains_decide_what_orders_decide(rt: HostRuntime) -> Result<(), Fail> {
     for _ in 0..LISTS {
         let mut events = Vec::new(alloc);
         for cell in 0..2 {
-            push(&mut events, 0, EventKind::Init { cell, value: one() }, 0)?;
+            push(
+                &mut events,
+                0,
+                EventKind::Init {
+                    cell,
+                    value: int(0),
+                },
+                0,
+            )?;
         }
         for _ in 0..STEPS {
             draw_step(&rt, &mut words, &mut events)?;

@@ -1,5 +1,5 @@
 use Rattle.std.proofs.Common.{◌≡◌, ℕ, ◌+◌, ◌++◌, ◌∷◌, [], List, sym, subst, arith}
-use Rattle.c11_events.specs.Offered.{IsChainOffered}
+use Rattle.c11_events.specs.Offered.{IsChainOffered, op_reading}
 use Rattle.c11_plain.proofs.Ends.{below}
 use Rattle.c11_plain.proofs.Numbers.{apart}
 use Rattle.c11_plain.proofs.Rising.{IsRisingBelow, rising_push, rising_skip, rising_done}
@@ -8,7 +8,7 @@ use Rattle.c11_plain.proofs.chain_offers.chain_offered_of.Goals.{then-branch+in_
 
 pub loop-x-preserved : goal.loop-x-preserved
 loop-x-preserved c =
-    let P : ℕ → Type 0 = IsChainOffered c.args.events.now c.args.thread (λ _. c.args.kind.now) c.args.cell in
+    let P : ℕ → Type 0 = IsChainOffered c.args.events.now c.args.thread (op_reading c.args.events.now c.args.op.now) c.args.cell in
     let Next : List ℕ → Type 0 = λ xs. IsRisingBelow P (c.loop-x.x + 1) xs in
     elim c.if-branch.branch [
       | then-branch+in_ok-push w ↦
@@ -20,5 +20,5 @@ loop-x-preserved c =
     ]
 
 pub returns : goal.returns
-returns c = rising_done (IsChainOffered c.args.events.now c.args.thread (λ _. c.args.kind.now) c.args.cell) c.loop-x.x c.loop-x.offers.items
+returns c = rising_done (IsChainOffered c.args.events.now c.args.thread (op_reading c.args.events.now c.args.op.now) c.args.cell) c.loop-x.x c.loop-x.offers.items
     (λ x o. omega (arith, below c.args.events.now c.in_ok-count.count c.in_ok-count.ensures o.store)) c.loop-x.invariant
