@@ -33,9 +33,13 @@ combined And width old operand = bit_and old operand
 combined Or width old operand = bit_or old operand
 combined Xor width old operand = bit_xor old operand
 
--- the value in another type: the same number modulo two to the width (C11 6.3.1.3; for signed types this project's own)
-unfoldable pub converted : CType → TypedNumber → TypedNumber
-converted to value = record { ctype = to; number = of_bits to (bits_of to value.number) }
+-- the number modulo two to the width of the type, as a value of it
+unfoldable pub wrapped : CType → ℤ → TypedNumber
+wrapped ctype number = record { ctype = ctype; number = of_bits ctype (bits_of ctype number) }
+
+-- the value in another type (C11 6.3.1.3; for signed types this project's own)
+abbrev pub converted : CType → TypedNumber → TypedNumber
+converted to value = wrapped to value.number
 
 -- the new value of a read-modify-write; an operand of another type counts modulo two to the width, as if converted first
 unfoldable pub wrapping : RmwKind → TypedNumber → TypedNumber → TypedNumber

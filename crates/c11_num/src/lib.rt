@@ -4,6 +4,8 @@
 //! (ISO/IEC 9899:2011, 5.2.4.2.1 and 6.2.6.2, with the widths chosen here).
 #![tactic(auto)]
 
+mod arithmetic;
+mod fault;
 mod kind;
 mod memory;
 mod modular;
@@ -12,6 +14,8 @@ mod tests;
 mod text;
 mod value;
 
+pub use arithmetic::{negate, usual};
+pub use fault::NumFault;
 pub use kind::{BinaryOp, RmwKind};
 pub use memory::NoMemory;
 pub use modular::{convert, wrapping};

@@ -6,11 +6,18 @@ use crate::kind::RmwKind;
 use crate::value::{CType, CValue};
 
 /// The value in another type: its number modulo two to the width of that type (ISO/IEC 9899:2011, 6.3.1.3).
-#[tactic(auto, unfolding(crate::specs::Wrapping::converted))]
 pub fn convert(value: CValue, to: CType) -> CValue
     ensures { result ≡ spec.converted to value }
 {
-    of_bits(to, bits_of(to, value.number()))
+    wrapped(to, value.number())
+}
+
+/// The number modulo two to the width of the type, as a value of it.
+#[tactic(auto, unfolding(crate::specs::Wrapping::wrapped))]
+pub(crate) fn wrapped(ctype: CType, number: i128) -> CValue
+    ensures { result ≡ spec.wrapped ctype number }
+{
+    of_bits(ctype, bits_of(ctype, number))
 }
 
 /// What a read-modify-write writes: the result modulo two to the width, in the type of the old value

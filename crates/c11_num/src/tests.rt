@@ -1,4 +1,7 @@
-use crate::{Bytes, CType, CValue, Name, NoMemory, RmwKind, convert, in_range, wrapping};
+use crate::{
+    Bytes, CType, CValue, Name, NoMemory, NumFault, RmwKind, convert, in_range, negate, usual,
+    wrapping,
+};
 use std::alloc::AllocError;
 use std::test::Fail;
 
@@ -71,6 +74,29 @@ fn read_modify_writes_and_conversions_wrap(rt: HostRuntime) {
         assert!(rt; value.ctype() == to);
         assert_eq!(rt; value.number(), new, "{number}");
     }
+}
+
+#[test]
+fn minus_overflows_where_its_type_is_signed(rt: HostRuntime) {
+    let least_long = -9_223_372_036_854_775_808;
+    let rows: [(CType, i128, Option<i128>); 6] = [
+        (CType::Int, 5, Some(-5)),
+        (CType::Int, -2_147_483_648, None),
+        (CType::Unsigned, 1, Some(4_294_967_295)),
+        (CType::Unsigned, 0, Some(0)),
+        (CType::Long, least_long, None),
+        (CType::ULong, 2, Some(18_446_744_073_709_551_614)),
+    ];
+    for (ctype, number, minus) in rows {
+        assert!(rt; in_range(ctype, number));
+        match negate(CValue::new(ctype, number)) {
+            Ok(value) => assert!(rt; value.ctype() == ctype && Some(value.number()) == minus),
+            Err(fault) => assert!(rt; fault == NumFault::Overflow && minus.is_none()),
+        }
+    }
+    assert!(rt; usual(CType::Unsigned, CType::Int) == CType::Unsigned);
+    assert!(rt; usual(CType::Unsigned, CType::Long) == CType::Long);
+    assert!(rt; usual(CType::ULong, CType::Long) == CType::ULong);
 }
 
 #[test]
