@@ -83,8 +83,9 @@ fn copy_events(alloc: Global, events: &[Event]) -> Result<Vec<Event>, NoMemory>
     Ok(copies)
 }
 
-/// The events with one more: the operation of the thread, as it is when it reads the store.
-pub(crate) fn extended(
+/// The events with one more: the thread's operation, as it is when it reads the store of this number. `Err` only where memory
+/// runs out.
+pub fn extended(
     alloc: Global,
     events: &[Event],
     thread: u32,

@@ -27,14 +27,13 @@ mod search;
 mod seq_cst;
 mod standing;
 mod tables;
-#[cfg(test)]
-mod tests;
 mod values;
 
 pub use broken::Broken;
 pub use chain_lawful::is_chain_lawful;
 pub use chain_offers::chain_offered;
 pub use consistent::is_consistent;
+pub use copies::extended;
 pub use happens::{happens_before, synchronizes_with};
 pub use lawful::{broken_rule, is_lawful};
 pub use offers::offered;

@@ -1,10 +1,9 @@
-use crate::copies::extended;
-use crate::{
-    Broken, broken_rule, chain_offered, happens_before, is_chain_lawful, is_consistent, is_lawful,
-    offered, racing, reads_earlier, synchronizes_with, value_of,
-};
 use c11_events::{Event, EventKind, Op, Order};
 use c11_num::{CType, CValue, NoMemory, RmwKind};
+use c11_plain::{
+    Broken, broken_rule, chain_offered, extended, happens_before, is_chain_lawful, is_consistent,
+    is_lawful, offered, racing, reads_earlier, synchronizes_with, value_of,
+};
 use rand_core::utils::NextWord;
 use rand_pcg::Pcg32;
 use std::alloc::Global;
