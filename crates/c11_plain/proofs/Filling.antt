@@ -104,6 +104,14 @@ if_ok (Err e) p f = tt
 pub same_of : {t : Pairs} {R S : ℕ → ℕ → Type 0} → IsTableOf t R → ((a b : ℕ) → R a b → S a b) → ((a b : ℕ) → S a b → R a b) → IsTableOf t S
 same_of i f g = record { sound = λ a b h. f a b (i.sound a b h); complete = λ a b s. i.complete a b (g a b s) }
 
+-- a table is that of its own relation
+pub same_table : (t : Pairs) → IsTableOf t (Holds t)
+same_table t = record { sound = λ a b h. h; complete = λ a b h. h }
+
+-- the pairs of a table that a fact of the second number keeps
+pub kept_of : {x t : Pairs} {R : ℕ → ℕ → Type 0} {P : ℕ → Type 0} → IsTableOf x R → IsTableOf t (λ a b. Holds x a b × P b) → IsTableOf t (λ a b. R a b × P b)
+kept_of i k = same_of k (λ a b h. (i.sound a b h.0, h.1)) (λ a b h. (i.complete a b h.0, h.1))
+
 pub or_of : {x y t : Pairs} {R S : ℕ → ℕ → Type 0} → IsTableOf x R → IsTableOf y S → IsTableOf t (λ a b. Holds x a b ⊎ Holds y a b) → IsTableOf t (λ a b. R a b ⊎ S a b)
 or_of i j k = same_of k
     (λ a b h. elim h [ inl p ↦ inl (i.sound a b p) | inr p ↦ inr (j.sound a b p) ])

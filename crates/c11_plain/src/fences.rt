@@ -1,7 +1,7 @@
 ghost use Rattle.std.specs.Prelude.{IfOk};
 ghost use Rattle.c11_events.specs.HappensBefore.{SeqCstBefore};
-ghost use Rattle.c11_events.specs.Lawful.{IsFencedBefore, IsFencedAfter, IsFencedBetween, Fenced};
-ghost use Rattle.c11_plain.specs.Pairs.{IsTableOf};
+ghost use Rattle.c11_events.specs.Lawful.{IsFence, IsFencedBefore, IsFencedAfter, IsFencedBetween, Fenced};
+ghost use Rattle.c11_plain.specs.Pairs.{Holds, IsTableOf};
 
 use crate::direct::seq_cst_before;
 use crate::events::is_fence;
@@ -22,13 +22,20 @@ pub(crate) fn seq_cst_order(alloc: Global, events: &[Event]) -> Result<Pairs, No
     )
 }
 
+// The pairs of which the second is a fence.
+fn to_fences(alloc: Global, events: &[Event], table: &Pairs) -> Result<Pairs, NoMemory>
+    ensures { IfOk result (λ kept. IsTableOf kept (λ a f. Holds table.now a f × IsFence events.now f)) }
+{
+    table.only(alloc, |_, f| is_fence(events, f))
+}
+
 /// Each event behind a seq_cst fence of its thread, behind each seq_cst event before the fence.
 pub(crate) fn fenced_before(alloc: Global, events: &[Event]) -> Result<Pairs, NoMemory>
     ensures { IfOk result (λ table. IsTableOf table (IsFencedBefore events.now)) }
 {
     let order = seq_cst_order(alloc, events)?;
     let thread = program(alloc, events)?;
-    let to_fence = order.only(alloc, |_, f| is_fence(events, f))?;
+    let to_fence = to_fences(alloc, events, &order)?;
     to_fence.then(alloc, &thread)
 }
 
@@ -38,7 +45,7 @@ pub(crate) fn fenced_after(alloc: Global, events: &[Event]) -> Result<Pairs, NoM
 {
     let order = seq_cst_order(alloc, events)?;
     let thread = program(alloc, events)?;
-    let to_fence = thread.only(alloc, |_, f| is_fence(events, f))?;
+    let to_fence = to_fences(alloc, events, &thread)?;
     to_fence.then(alloc, &order)
 }
 
@@ -48,8 +55,8 @@ pub(crate) fn fenced_between(alloc: Global, events: &[Event]) -> Result<Pairs, N
 {
     let order = seq_cst_order(alloc, events)?;
     let thread = program(alloc, events)?;
-    let to_first = thread.only(alloc, |_, f| is_fence(events, f))?;
-    let to_next = order.only(alloc, |_, g| is_fence(events, g))?;
+    let to_first = to_fences(alloc, events, &thread)?;
+    let to_next = to_fences(alloc, events, &order)?;
     let to_second = to_first.then(alloc, &to_next)?;
     to_second.then(alloc, &thread)
 }
