@@ -1,6 +1,8 @@
 -- Tables of relations.
 use Rattle.std.proofs.Common.{◌≡◌, ℕ, ◌+◌, ◌*◌, ◌/◌, ◌%◌, ◌<◌, ◌≤◌, Bool, true, false, List, Some, slice_get, get_or, length, vec_len, arith, subst, sym, refl, ◌⊎◌, inl, inr, Result, Ok, Err, IfOk, IsTrue, not, ◌↔◌}
 use Rattle.c11_num.specs.declared.memory.NoMemory.{NoMemory}
+use native.Mathlib.Decide.{ℕ_discrete}
+use mathlib.Core.Logic.{dite}
 use Rattle.std.proofs.lemmas.Nat.{div-mul-add, mod-mul-add}
 use Rattle.std.proofs.lemmas.Option.{slice_get-get_or}
 use Rattle.c11_events.proofs.Count.{digits_less}
@@ -43,18 +45,6 @@ module _ (n : ℕ) (test : ℕ → ℕ → Bool → Type 0) where
             by_bit table a b (get_or items (a * n + b) true) same la lb filled (slice_get-get_or items (a * n + b) true inside);
       }
 
-  pub all_pass : (table : Pairs) (count : ℕ) → table.count ≡ n → n * n ≤ count
-      → ((j : ℕ) → j < count → slice_get table.bits.items j ≡ Some true → test (j / n) (j % n) true) → AllPass table test true
-  all_pass table count same enough passed = record {
-    each = λ _ a b h.
-        let la : a < n = omega (arith, h.first) in
-        let lb : b < n = omega (arith, h.second) in
-        let is = subst (λ (z : ℕ). slice_get table.bits.items (a * z + b) ≡ Some true) same h.bit in
-        let inside : a * n + b < count = omega (arith, in_square a b la lb) in
-        subst (λ (z : ℕ). test a z true) (mod-mul-add a n b lb) (subst (λ (z : ℕ). test z ((a * n + b) % n) true) (div-mul-add a n b lb) (passed (a * n + b) inside is));
-    some = λ e. cc;
-  }
-
   -- the table of a test that decides a relation
   pub table_of : (table : Pairs) (R : ℕ → ℕ → Type 0) → Tabulates n test table → ((a b : ℕ) → R a b → (a < n) × (b < n))
       → ((a b : ℕ) → a < n → b < n → test a b true → R a b) → ((a b : ℕ) → a < n → b < n → test a b false → R a b → ⊥) → IsTableOf table R
@@ -67,6 +57,13 @@ module _ (n : ℕ) (test : ℕ → ℕ → Bool → Type 0) where
       → ((a b : ℕ) → a < n → b < n → test a b true → R a b) → ((a b : ℕ) → a < n → b < n → test a b false → R a b → ⊥) → IfOk r (λ table. IsTableOf table R)
   made (Ok table) R t ends sound complete = table_of table R t ends sound complete
   made (Err e) R t ends sound complete = tt
+
+-- one row more
+pub next_row : (R T : ℕ → ℕ → Type 0) (a : ℕ) → ((x b : ℕ) → x < a → R x b → T x b) → ((b : ℕ) → R a b → T a b) → (x b : ℕ) → x < a + 1 → R x b → T x b
+next_row R T a rows row x b lt r =
+    dite (ℕ_discrete x a)
+    (λ (same : x ≡ a). subst (λ (z : ℕ). R z b → T z b) (sym same) (row b) r)
+    (λ (differ : x ≡ a → ⊥). rows x b (omega arith) r)
 
 -- what a search below a bound says
 pub some_of : (found : Bool) (n : ℕ) (test : ℕ → Bool → Type 0) (R : ℕ → Type 0) → FindsBelow n test found

@@ -47,10 +47,11 @@ impl Pairs {
         requires { F.IsAlwaysCallable test }
         ensures { AllPass self.now (F.post test) result }
     {
-        let width = self.count as usize;
-        for place in 0..width * width {
-            if self.bits[place] && !test((place / width) as u32, (place % width) as u32) {
-                return false;
+        for a in 0..self.count {
+            for b in 0..self.count {
+                if self.holds(a, b) && !test(a, b) {
+                    return false;
+                }
             }
         }
         true

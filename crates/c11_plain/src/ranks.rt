@@ -1,5 +1,5 @@
 /// Where a store stands in its chain of read-modify-writes.
-#[derive(Clone, Copy, Debug, PartialEq, Eq)]
+#[derive(Clone, Copy)]
 pub(crate) struct Rank {
     /// The store that the chain begins with.
     pub(crate) head: u32,

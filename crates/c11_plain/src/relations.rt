@@ -10,7 +10,7 @@ use c11_num::NoMemory;
 use std::alloc::Global;
 
 /// The relations of a list of events that the rules speak of.
-#[derive(Debug, Drop)]
+#[derive(Drop)]
 pub(crate) struct Relations {
     /// One more than the number of the last event.
     pub(crate) count: u32,

@@ -1,6 +1,8 @@
-use Rattle.std.proofs.Common.{arith, refl}
-use Rattle.c11_plain.proofs.Filling.{all_pass}
+use Rattle.std.proofs.Common.{arith}
+use Rattle.c11_plain.specs.Pairs.{Holds}
+use Rattle.c11_plain.proofs.Filling.{next_row}
 use Rattle.c11_plain.proofs.pairs.Pairs.all.Goals as goal
 
-pub returns : goal.returns
-returns g c = all_pass c.args.self.now.count _ c.args.self.now c.loop-place.place refl (omega arith) c.loop-place.invariant
+pub loop-a-preserved : goal.loop-a-preserved
+loop-a-preserved g c = next_row (Holds c.args.self.now) _ c.loop-a.a c.loop-a.invariant
+    (λ b h. c.loop-b.invariant b (omega (arith, h.second, c.loop-b-test.false)) h)
