@@ -1,0 +1,7 @@
+pub mod Scans
+pub mod Places
+pub mod Longer
+pub mod Answered
+pub mod Rooms
+pub mod Noted
+pub mod Whole
