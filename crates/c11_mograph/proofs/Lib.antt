@@ -1,0 +1,10 @@
+pub mod Bits
+pub mod Rows
+pub mod Places
+pub mod Chains
+pub mod Orders
+pub mod Opened
+pub mod Searched
+pub mod Found
+pub mod Grown
+pub mod Precedes

@@ -1,0 +1,5 @@
+pub mod Table
+pub mod Made
+pub mod Words
+pub mod Graph
+pub mod Lists

@@ -1,0 +1,8 @@
+-- Lists that took room and nothing else.
+use Rattle.std.specs.Prelude.{ℕ, ◌≡◌, ◌≤◌, List, Some, slice_get, vec_capacity}
+use Rattle.std.specs.Global.{Vec}
+
+-- each list has the same items, and no less room
+pub record HaveGrown (old new : List (Vec ℕ)) : Type 0 where
+  pub items : (cell : ℕ) (a b : Vec ℕ) → slice_get old cell ≡ Some a → slice_get new cell ≡ Some b → b.items ≡ a.items
+  pub room : (cell : ℕ) (a b : Vec ℕ) → slice_get old cell ≡ Some a → slice_get new cell ≡ Some b → vec_capacity a ≤ vec_capacity b

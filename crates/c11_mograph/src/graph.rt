@@ -1,0 +1,189 @@
+ghost use Rattle.std.specs.Prelude.{◌≡◌, ◌<◌, ◌≤◌, ◌↔◌, ◌⊎◌, ℕ, List, [], ◌∷◌, IsTrue, IfOk, OnOk, OnErr, IfSome, IfNone, MatchOption, All, Some, None, true, false, length, slice_get, vec_len, vec_capacity};
+ghost use Rattle.c11_mograph.specs.Lists.{HaveGrown};
+ghost use Rattle.c11_mograph.specs.Made.{AreRising, Made, Store, nothing_made, IsAdded, GoesOn, Reach, Ordered, CanAdd, with_pairs, with_store, stores_of};
+
+use crate::kept::Kept;
+use crate::table::Table;
+use c11_num::NoMemory;
+use std::alloc::Global;
+use std::marker::Model;
+
+/// The stores of one execution, their chains, and which chain is reached from which. Contracts see of it what it keeps, and what
+/// was made, for which that stands.
+#[derive(Debug, Drop)]
+pub struct Graph {
+    threads: u32,
+    size: u32,
+    numbers: Vec<u32>,
+    kept: Vec<Kept>,
+    lists: Vec<Vec<u32>>,
+    table: Table,
+    ready: bool,
+}
+
+impl Model for Graph {
+    ghost use Rattle.c11_mograph.specs.Words.{Words};
+
+    ghost Value = { Words };
+
+    ghost use Rattle.c11_mograph.specs.Graph.{words_of, IsSound};
+
+    ghost view = { words_of };
+
+    ghost invariant = { IsSound };
+}
+
+impl Graph {
+    ghost use Rattle.c11_mograph.specs.Words.{StandsFor, HasSameCounts, ReachesPlace};
+
+    /// No store yet, for so many cells and threads, each numbered from 0, and so many stores. Memory for the stores and the table
+    /// of which chain is reached is taken here.
+    pub fn open(alloc: Global, cells: u32, threads: u32, stores: u32) -> Result<Graph, NoMemory>
+        ensures cells { IfOk result (λ graph. length graph.lists ≡ cells) }
+        ensures threads { IfOk result (λ graph. graph.threads ≡ threads) }
+        ensures size { IfOk result (λ graph. graph.size ≡ stores) }
+        ensures none { IfOk result (λ graph. StandsFor graph nothing_made) }
+    {
+        let numbers = Vec::with_capacity(alloc, stores as usize)?;
+        let kept = Vec::with_capacity(alloc, stores as usize)?;
+        let lists = empty_lists(alloc, cells)?;
+        let table = Table::new(alloc, stores)?;
+        Ok(Graph {
+            threads,
+            size: stores,
+            numbers,
+            kept,
+            lists,
+            table,
+            ready: false,
+        })
+    }
+
+    /// The stores of a cell, in rising order.
+    pub fn stores(&self, cell: u32) -> &[u32]
+        requires { cell < length self.now.lists }
+        ensures { (made : Made) → StandsFor self.now made → result.now ≡ stores_of cell made.stores }
+    {
+        self.lists[cell as usize].as_slice()
+    }
+
+    /// Makes room for one store and so many links; then `add` and `order` take no memory. `Err` only where memory runs out, and then
+    /// too nothing that was made changes.
+    pub fn room(&mut self, _links: u32) -> Result<(), NoMemory>
+        ensures ready { OnOk result (self.new.ready ≡ true) }
+        ensures stands { (made : Made) → StandsFor self.old made → StandsFor self.new made }
+        ensures same { HasSameCounts self.old self.new }
+    {
+        make_room(&mut self.lists)?;
+        self.ready = true;
+        Ok(())
+    }
+
+    // The place of a store.
+    fn place(&self, x: u32) -> Option<usize>
+        ensures some { IfSome result (λ place. slice_get self.now.numbers place ≡ Some x) }
+        ensures none { IfNone result (AreRising self.now.numbers → (i : ℕ) → (slice_get self.now.numbers i ≡ Some x → ⊥)) }
+    {
+        place_of(self.numbers.as_slice(), x)
+    }
+
+    // What is kept of the store at a place.
+    fn kept_at(&self, place: usize) -> Kept
+        requires { place < length self.now.numbers }
+        ensures { slice_get self.now.kept place ≡ Some result }
+    {
+        self.kept.as_slice()[place]
+    }
+
+    /// Whether no read-modify-write goes on from x.
+    pub fn ends_chain(&self, x: u32) -> bool
+        ensures { (made : Made) → StandsFor self.now made → IsTrue result ↔ ((b : ℕ) → GoesOn made.stores b x → ⊥) }
+    {
+        match self.place(x) {
+            Some(place) => self.kept_at(place).ends,
+            None => true,
+        }
+    }
+
+    /// Whether the store b is reached from a: links lead from a's chain to b's, or they are of one chain and a comes first in it.
+    pub fn reaches(&self, a: u32, b: u32) -> bool
+        ensures { (made : Made) → StandsFor self.now made → IsTrue result ↔ Reach made a b }
+    {
+        let Some(i) = self.place(a) else {
+            return false;
+        };
+        let Some(j) = self.place(b) else {
+            return false;
+        };
+        self.reaches_place(i, j)
+    }
+
+    // Whether the store at the place j is reached from the one at i.
+    fn reaches_place(&self, i: usize, j: usize) -> bool
+        requires i { i < length self.now.numbers }
+        requires j { j < length self.now.numbers }
+        ensures { ReachesPlace self.now i j result }
+    {
+        let a = self.kept_at(i);
+        let b = self.kept_at(j);
+        if a.head == b.head {
+            a.rank < b.rank
+        } else {
+            self.table.has(b.head as usize, a.head as usize)
+        }
+    }
+
+    // Whether p is x, or a link from p to x leaves no chain reaching itself and no rank reversed.
+    fn may_come_before(&self, p: u32, x: u32) -> bool
+        ensures { (made : Made) → StandsFor self.now made → IsTrue result ↔ ((p ≡ x → ⊥) → (Reach made x p → ⊥)) }
+    {
+        p == x || !self.reaches(x, p)
+    }
+
+    /// Whether links from each of these stores other than x to x leave no chain reaching itself and no rank reversed.
+    pub fn may_precede(&self, prior: &[u32], x: u32) -> bool
+        ensures { (made : Made) → StandsFor self.now made → IsTrue result ↔ Ordered (with_pairs made prior.now x) }
+    {
+        for p in prior {
+            if !self.may_come_before(*p, x) {
+                return false;
+            }
+        }
+        true
+    }
+}
+
+// So many empty lists.
+fn empty_lists(alloc: Global, count: u32) -> Result<Vec<Vec<u32>>, NoMemory>
+    ensures count { IfOk result (λ lists. length lists.items ≡ count) }
+    ensures empty { IfOk result (λ lists. All (λ list. list.items ≡ []) lists.items) }
+{
+    let mut lists = Vec::with_capacity(alloc, count as usize)?;
+    for _ in 0..count {
+        lists.push(Vec::new(alloc))?;
+    }
+    Ok(lists)
+}
+
+// Room for one more in each list.
+fn make_room(lists: &mut Vec<Vec<u32>>) -> Result<(), NoMemory>
+    ensures count { length lists.new.items ≡ length lists.old.items }
+    ensures grown { HaveGrown lists.old.items lists.new.items }
+    ensures room { OnOk result (All (λ list. vec_len list < vec_capacity list) lists.new.items) }
+{
+    for place in 0..lists.len() {
+        lists[place].reserve(1)?;
+    }
+    Ok(())
+}
+
+// The place of a number among rising ones.
+fn place_of(numbers: &[u32], x: u32) -> Option<usize>
+    ensures some { IfSome result (λ place. slice_get numbers.now place ≡ Some x) }
+    ensures none { IfNone result (AreRising numbers.now → (i : ℕ) → (slice_get numbers.now i ≡ Some x → ⊥)) }
+{
+    match numbers.binary_search(&x) {
+        Ok(place) => Some(place),
+        Err(_) => None,
+    }
+}
