@@ -6,5 +6,6 @@ pub mod Orders
 pub mod Opened
 pub mod Searched
 pub mod Found
+pub mod Linked
 pub mod Grown
 pub mod Precedes

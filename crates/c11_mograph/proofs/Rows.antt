@@ -39,7 +39,7 @@ module _ (width : ℕ) (old mid new : List ℕ) (row from to : ℕ) (from_is_oth
         turned_here : (c : ℕ) → (row ≡ to) ⊎ (bit_of width old row to ≡ 1) → c < width * 64 → (bit_of width new row c ≡ 1) ↔ ((c ≡ from) ⊎ ((bit_of width old row c ≡ 1) ⊎ (bit_of width old from c ≡ 1)))
         turned_here c way inner =
             let mid_way : (row ≡ to) ⊎ (bit_of width mid row to ≡ 1) = elim way [ inl e ↦ inl e | inr b ↦ inr (as_before to to_within ∙ b) ] in
-            let t = now.turned c mid_way inner in (
+            let t = now.turned c (differs mid_way) mid_way inner in (
               λ b. elim (t.0 b) [ inl e ↦ inl e | inr w ↦ elim w [ inl x ↦ inr (inl (sym (as_before c inner) ∙ x)) | inr x ↦ inr (inr (sym (from_before c inner) ∙ x)) ] ],
               λ w. t.1 (elim w [ inl e ↦ inl e | inr v ↦ elim v [ inl x ↦ inr (inl (as_before c inner ∙ x)) | inr x ↦ inr (inr (from_before c inner ∙ x)) ] ]),
             )

@@ -119,3 +119,7 @@ pub record CanAdd (made : Made) (s : Store) : Type 0 where
 -- numbers rise
 abbrev pub AreRising : List ℕ → Type 0
 AreRising numbers = (i j x y : ℕ) → slice_get numbers i ≡ Some x → slice_get numbers j ≡ Some y → i < j → x < y
+
+-- each of these is a store, and so is x, of the same cell
+abbrev pub OfOneCell : List Store → List ℕ → ℕ → Type 0
+OfOneCell stores prior x = (i p : ℕ) → slice_get prior i ≡ Some p → IsAdded stores p (λ s. IsAdded stores x (λ t. s.cell ≡ t.cell))

@@ -14,7 +14,7 @@ pub record IsLinked (width : ℕ) (old new : List ℕ) (rows from to : ℕ) : Ty
 
 -- one row was linked so, if it is `to` or has its bit; the others are as they were
 pub record IsRowLinked (width : ℕ) (old new : List ℕ) (row from to : ℕ) : Type 0 where
-  pub turned : (c : ℕ) → (row ≡ to) ⊎ (bit_of width old row to ≡ 1) → c < width * 64
+  pub turned : (c : ℕ) → (row ≡ from → ⊥) → (row ≡ to) ⊎ (bit_of width old row to ≡ 1) → c < width * 64
       → (bit_of width new row c ≡ 1) ↔ ((c ≡ from) ⊎ ((bit_of width old row c ≡ 1) ⊎ (bit_of width old from c ≡ 1)))
   pub kept : (c : ℕ) → (row ≡ to → ⊥) → (bit_of width old row to ≡ 1 → ⊥) → c < width * 64 → bit_of width new row c ≡ bit_of width old row c
   pub else_where : (r c : ℕ) → (r ≡ row → ⊥) → c < width * 64 → bit_of width new r c ≡ bit_of width old r c

@@ -2,7 +2,7 @@
 use Rattle.std.specs.Prelude.{ℕ, ◌≡◌, ◌<◌, ◌≤◌, ◌*◌, ◌↔◌, Bool, true, IsTrue, List, Option, Some, ◌⊎◌, length, slice_get, vec_len, vec_capacity}
 use Rattle.std.specs.Global.{Vec}
 use Rattle.c11_mograph.specs.declared.kept.Kept.{Kept}
-use Rattle.c11_mograph.specs.Table.{bit_of}
+use Rattle.c11_mograph.specs.Table.{bit_of, IsLinked}
 use Rattle.c11_mograph.specs.Made.{Store, Made, IsAdded, GoesOn, Chain, IsPair, Links, Ordered, stores_of}
 
 -- the counts of threads and of stores that may be added; of each store its number and what is kept beside it; the stores of each
@@ -73,3 +73,13 @@ pub record ReachesPlace (words : Words) (i j : ℕ) (reached : Bool) : Type 0 wh
   pub second : slice_get words.kept j ≡ Some b
   pub within : a.head ≡ b.head → IsTrue reached ↔ (a.rank < b.rank)
   pub across : (a.head ≡ b.head → ⊥) → IsTrue reached ↔ (bit_of words.width words.bits b.head a.head ≡ 1)
+
+-- only the table may differ
+abbrev pub KeepsAllButBits : Words → Words → Type 0
+KeepsAllButBits old new = new ≡ record old { bits = new.bits }
+
+-- the chain at `from` is linked to the one at `to`, where that is another one that is not reached yet and does not lead back
+pub record LinksChains (old new : Words) (from to : ℕ) : Type 0 where
+  pub rest : KeepsAllButBits old new
+  pub linked : (from ≡ to → ⊥) → (bit_of old.width old.bits to from ≡ 1 → ⊥) → (bit_of old.width old.bits from to ≡ 1 → ⊥)
+      → IsLinked old.width old.bits new.bits (length old.numbers) from to

@@ -1,6 +1,7 @@
-ghost use Rattle.std.specs.Prelude.{◌≡◌, ◌<◌, ◌≤◌, ◌↔◌, ◌⊎◌, ℕ, List, [], ◌∷◌, IsTrue, IfOk, OnOk, OnErr, IfSome, IfNone, MatchOption, All, Some, None, true, false, length, slice_get, vec_len, vec_capacity};
+ghost use Rattle.std.specs.Prelude.{◌≡◌, ◌<◌, ◌≤◌, ◌*◌, ◌↔◌, ◌⊎◌, ℕ, List, [], ◌∷◌, IsTrue, IfOk, OnOk, OnErr, IfSome, IfNone, MatchOption, All, Some, None, true, false, length, slice_get, vec_len, vec_capacity};
+ghost use Rattle.c11_mograph.specs.Table.{bit_of};
 ghost use Rattle.c11_mograph.specs.Lists.{HaveGrown};
-ghost use Rattle.c11_mograph.specs.Made.{AreRising, Made, Store, nothing_made, IsAdded, GoesOn, Reach, Ordered, CanAdd, with_pairs, with_store, stores_of};
+ghost use Rattle.c11_mograph.specs.Made.{AreRising, OfOneCell, Made, Store, nothing_made, IsAdded, GoesOn, Reach, Ordered, CanAdd, with_pairs, with_store, stores_of};
 
 use crate::kept::Kept;
 use crate::table::Table;
@@ -34,7 +35,7 @@ impl Model for Graph {
 }
 
 impl Graph {
-    ghost use Rattle.c11_mograph.specs.Words.{StandsFor, HasSameCounts, ReachesPlace};
+    ghost use Rattle.c11_mograph.specs.Words.{StandsFor, HasSameCounts, ReachesPlace, LinksChains, KeepsAllButBits};
 
     /// No store yet, for so many cells and threads, each numbered from 0, and so many stores. Memory for the stores and the table
     /// of which chain is reached is taken here.
@@ -90,7 +91,8 @@ impl Graph {
     // What is kept of the store at a place.
     fn kept_at(&self, place: usize) -> Kept
         requires { place < length self.now.numbers }
-        ensures { slice_get self.now.kept place ≡ Some result }
+        ensures kept { slice_get self.now.kept place ≡ Some result }
+        ensures head { result.head < length self.now.numbers }
     {
         self.kept.as_slice()[place]
     }
@@ -150,6 +152,53 @@ impl Graph {
             }
         }
         true
+    }
+
+    // Links the chain whose head is at the place `from` to the one whose head is at `to`.
+    fn link_chains(&mut self, from: usize, to: usize)
+        requires from { from < length self.old.numbers }
+        requires to { to < length self.old.numbers }
+        ensures one_chain { from ≡ to → self.new ≡ self.old }
+        ensures reached { bit_of self.old.width self.old.bits to from ≡ 1 → self.new ≡ self.old }
+        ensures linked { LinksChains self.old self.new from to }
+        ensures few { length self.old.numbers ≤ self.old.size }
+        ensures columns { self.old.size ≤ self.old.width * 64 }
+    {
+        if from != to && !self.table.has(to, from) {
+            self.table.link(self.numbers.len(), from, to);
+        }
+    }
+
+    // Links a to b, where both are stores and the link leaves no chain reaching itself and no rank reversed.
+    fn link(&mut self, a: u32, b: u32)
+        ensures stands { (made : Made) → StandsFor self.old made → OfOneCell made.stores (a ∷ []) b → Ordered (with_pairs made (a ∷ []) b)
+            → StandsFor self.new (with_pairs made (a ∷ []) b) }
+        ensures same { KeepsAllButBits self.old self.new }
+    {
+        if a == b {
+            return;
+        }
+        let Some(i) = self.place(a) else {
+            return;
+        };
+        let Some(j) = self.place(b) else {
+            return;
+        };
+        let from = self.kept_at(i).head;
+        let to = self.kept_at(j).head;
+        self.link_chains(from as usize, to as usize);
+    }
+
+    /// Links each of these stores other than x to x. They and x are stores of one cell, and the links leave no chain reaching itself
+    /// and no rank reversed (`may_precede`). Takes no memory.
+    pub fn order(&mut self, prior: &[u32], x: u32)
+        ensures stands { (made : Made) → StandsFor self.old made → OfOneCell made.stores prior.now x → Ordered (with_pairs made prior.now x)
+            → StandsFor self.new (with_pairs made prior.now x) }
+        ensures same { KeepsAllButBits self.old self.new }
+    {
+        for p in prior {
+            self.link(*p, x);
+        }
     }
 }
 

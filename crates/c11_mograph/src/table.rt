@@ -86,26 +86,23 @@ impl Table {
         requires row { row < self.old.rows }
         requires from { from < self.old.rows }
         requires to { to < self.old.rows }
-        requires differ { (row ≡ to) ⊎ (bit_of self.old.width self.old.words.items row to ≡ 1) → row ≢ from }
         ensures linked { IsRowLinked self.old.width self.old.words.items self.new.words.items row from to }
         ensures rows { self.new.rows ≡ self.old.rows }
         ensures width { self.new.width ≡ self.old.width }
     {
-        if row == to || self.has(row, to) {
+        if row != from && (row == to || self.has(row, to)) {
             self.turn(row, from);
         }
     }
 
-    /// Links the row `from` to the row `to`, which has not the bit of `to`: each of the first rows that is `to` or has its bit
-    /// gets the bits of `from`, and that of `from` itself.
+    /// Links the row `from` to the row `to`, where they differ and `from` has not the bit of `to`: each of the first rows that is
+    /// `to` or has its bit gets the bits of `from`, and that of `from` itself.
     pub(crate) fn link(&mut self, rows: usize, from: usize, to: usize)
         requires rows { rows ≤ self.old.rows }
         requires columns { self.old.rows ≤ self.old.width * 64 }
         requires from { from < rows }
         requires to { to < rows }
-        requires differ { from ≢ to }
-        requires not_back { bit_of self.old.width self.old.words.items from to ≡ 1 → ⊥ }
-        ensures linked { IsLinked self.old.width self.old.words.items self.new.words.items rows from to }
+        ensures linked { (from ≡ to → ⊥) → (bit_of self.old.width self.old.words.items from to ≡ 1 → ⊥) → IsLinked self.old.width self.old.words.items self.new.words.items rows from to }
         ensures rows { self.new.rows ≡ self.old.rows }
         ensures width { self.new.width ≡ self.old.width }
     {
