@@ -7,5 +7,6 @@ pub mod Opened
 pub mod Searched
 pub mod Found
 pub mod Linked
+pub mod Previous
 pub mod Grown
 pub mod Precedes

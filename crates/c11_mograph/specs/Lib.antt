@@ -3,3 +3,4 @@ pub mod Made
 pub mod Words
 pub mod Graph
 pub mod Lists
+pub mod Places

@@ -1,7 +1,9 @@
-ghost use Rattle.std.specs.Prelude.{◌≡◌, ◌<◌, ◌≤◌, ◌*◌, ◌↔◌, ◌⊎◌, ℕ, List, [], ◌∷◌, IsTrue, IfOk, OnOk, OnErr, IfSome, IfNone, MatchOption, All, Some, None, true, false, length, slice_get, vec_len, vec_capacity};
+ghost use Rattle.std.specs.Prelude.{◌≡◌, ◌<◌, ◌≤◌, ◌*◌, ◌↔◌, ◌⊎◌, ◌++◌, ℕ, List, [], ◌∷◌, IsTrue, IfOk, OnOk, OnErr, IfSome, IfNone, MatchOption, All, Some, None, true, false, length, slice_get, vec_len, vec_capacity};
 ghost use Rattle.c11_mograph.specs.Table.{bit_of};
-ghost use Rattle.c11_mograph.specs.Lists.{HaveGrown};
-ghost use Rattle.c11_mograph.specs.Made.{AreRising, OfOneCell, Made, Store, nothing_made, IsAdded, GoesOn, Reach, Ordered, CanAdd, with_pairs, with_store, stores_of};
+ghost use Rattle.c11_mograph.specs.Places.{IsLastPlace, HasNoPlace};
+ghost use Rattle.std.specs.Global.{Vec};
+ghost use Rattle.c11_mograph.specs.Lists.{HaveGrown, HasPushed};
+ghost use Rattle.c11_mograph.specs.Made.{AreRising, OfOneCell, Made, Store, nothing_made, IsAdded, GoesOn, Reach, Ordered, CanAdd, with_pairs, with_store, stores_of, previous};
 
 use crate::kept::Kept;
 use crate::table::Table;
@@ -35,7 +37,7 @@ impl Model for Graph {
 }
 
 impl Graph {
-    ghost use Rattle.c11_mograph.specs.Words.{StandsFor, HasSameCounts, ReachesPlace, LinksChains, KeepsAllButBits};
+    ghost use Rattle.c11_mograph.specs.Words.{StandsFor, HasSameCounts, ReachesPlace, LinksChains, KeepsAllButBits, IsChained, Marks, Pushes};
 
     /// No store yet, for so many cells and threads, each numbered from 0, and so many stores. Memory for the stores and the table
     /// of which chain is reached is taken here.
@@ -200,6 +202,73 @@ impl Graph {
             self.link(*p, x);
         }
     }
+
+    // The last place of a store of the cell by the thread.
+    fn last_place_of(&self, cell: u32, thread: u32) -> Option<usize>
+        ensures some { IfSome result (λ place. IsLastPlace self.now.kept cell thread place) }
+        ensures within { IfSome result (λ place. place < length self.now.numbers) }
+        ensures none { IfNone result (HasNoPlace self.now.kept cell thread 0) }
+    {
+        last_place(self.kept.as_slice(), cell, thread)
+    }
+
+    // The number of the store at a place.
+    fn number_at(&self, place: usize) -> u32
+        requires { place < length self.now.numbers }
+        ensures { slice_get self.now.numbers place ≡ Some result }
+    {
+        self.numbers.as_slice()[place]
+    }
+
+    // The last store of the cell by the thread.
+    fn last_of(&self, cell: u32, thread: u32) -> Option<u32>
+        ensures { (made : Made) → StandsFor self.now made → result ≡ previous made.stores cell thread }
+    {
+        match self.last_place_of(cell, thread) {
+            Some(place) => Some(self.number_at(place)),
+            None => None,
+        }
+    }
+
+    // The place of the head, and the rank, of a store that goes on from `after`, or begins a chain.
+    fn chained(&self, after: Option<u32>) -> (u32, u32)
+        requires { length self.now.numbers < self.now.size }
+        ensures { IsChained self.now after result.0 result.1 }
+    {
+        let own = self.numbers.len() as u32;
+        let Some(y) = after else {
+            return (own, 0);
+        };
+        let Some(place) = self.place(y) else {
+            return (own, 0);
+        };
+        let kept = self.kept_at(place);
+        (kept.head, kept.rank + 1)
+    }
+
+    // Keeps that a store goes on from y.
+    fn mark(&mut self, y: u32)
+        ensures { Marks self.old self.new y }
+    {
+        if let Some(place) = self.place(y) {
+            self.kept[place].ends = false;
+        }
+    }
+
+    // Keeps a further store.
+    fn push(&mut self, number: u32, kept: Kept)
+        requires cell { kept.cell < length self.old.lists }
+        requires room { length self.old.numbers < self.old.size }
+        requires ready { self.old.ready ≡ true }
+        requires head { kept.head ≤ length self.old.numbers }
+        requires rank { kept.rank ≤ length self.old.numbers }
+        ensures { Pushes self.old self.new number kept }
+    {
+        push_into(&mut self.lists, kept.cell as usize, number);
+        push_number(&mut self.numbers, number);
+        push_kept(&mut self.kept, kept);
+        self.ready = false;
+    }
 }
 
 // So many empty lists.
@@ -235,4 +304,42 @@ fn place_of(numbers: &[u32], x: u32) -> Option<usize>
         Ok(place) => Some(place),
         Err(_) => None,
     }
+}
+
+// The last place of a store of the cell by the thread.
+fn last_place(kept: &[Kept], cell: u32, thread: u32) -> Option<usize>
+    ensures some { IfSome result (λ place. IsLastPlace kept.now cell thread place) }
+    ensures none { IfNone result (HasNoPlace kept.now cell thread 0) }
+{
+    for place in (0..kept.len()).rev() {
+        if kept[place].cell == cell && kept[place].thread == thread {
+            return Some(place);
+        }
+    }
+    None
+}
+
+fn push_number(numbers: &mut Vec<u32>, number: u32)
+    requires { vec_len numbers.old < vec_capacity numbers.old }
+    ensures items { numbers.new.items ≡ numbers.old.items ++ number ∷ [] }
+    ensures capacity { vec_capacity numbers.old ≤ vec_capacity numbers.new }
+{
+    let _ = numbers.push(number);
+}
+
+fn push_kept(all: &mut Vec<Kept>, kept: Kept)
+    requires { vec_len all.old < vec_capacity all.old }
+    ensures items { all.new.items ≡ all.old.items ++ kept ∷ [] }
+    ensures capacity { vec_capacity all.old ≤ vec_capacity all.new }
+{
+    let _ = all.push(kept);
+}
+
+// The number behind the others of the list of a cell.
+fn push_into(lists: &mut Vec<Vec<u32>>, cell: usize, number: u32)
+    requires cell { cell < length lists.old.items }
+    requires room { (list : Vec ℕ) → slice_get lists.old.items cell ≡ Some list → vec_len list < vec_capacity list }
+    ensures pushed { HasPushed lists.old.items lists.new.items cell number }
+{
+    push_number(&mut lists[cell], number);
 }
