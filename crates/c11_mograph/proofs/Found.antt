@@ -1,19 +1,18 @@
 -- Where a graph keeps what was made.
-use Rattle.std.proofs.Common.{◌≡◌, ℕ, ◌<◌, ◌≤◌, ◌↔◌, List, [], Some, None, Option, Bool, true, false, IsTrue, length, slice_get, sym, ap, ◌∙◌, subst, refl, arith, ◌⊎◌, inl, inr}
+use Rattle.std.proofs.Common.{◌≡◌, ℕ, ◌<◌, ◌↔◌, Some, Bool, IsTrue, slice_get, sym, ap, ◌∙◌, subst, arith, inl, inr}
 use Rattle.std.proofs.lemmas.Option.{slice_get_cases, slice_get_within}
 use native.Mathlib.Decide.{ℕ_discrete, dec_lt}
 use mathlib.Core.Logic.{dite}
 use Rattle.c11_mograph.specs.declared.kept.Kept.{Kept}
-use Rattle.c11_mograph.specs.Table.{bit_of}
 use Rattle.c11_mograph.specs.Made.{Store, Made, IsAdded, GoesOn, Chain, Links, Reach, AreRising}
-use Rattle.c11_mograph.specs.Words.{Words, WellMade, IsKept, StandsFor, ReachesPlace}
-use Rattle.c11_mograph.proofs.Chains.{added, chain_added, chain_same}
+use Rattle.c11_mograph.specs.Words.{Words, StandsFor, ReachesPlace}
+use Rattle.c11_mograph.proofs.Chains.{chain_added, chain_same}
 
 module _ (words : Words) (made : Made) (stands : StandsFor words made) where
   -- the store of a kept number
   pub store_at : (i x : ℕ) → slice_get words.numbers i ≡ Some x → (s : Store) × ((slice_get made.stores i ≡ Some s) × (s.number ≡ x))
   store_at i x at = elim (slice_get_cases made.stores i).1 [
-    inl p ↦ let both : Some p.0.number ≡ Some x = sym (stands.each i p.0 p.2).number ∙ at in (p.0, (p.2, cc))
+    | inl p ↦ let both : Some p.0.number ≡ Some x = sym (stands.each i p.0 p.2).number ∙ at in (p.0, (p.2, cc))
     | inr p ↦ absurd (omega (arith, p.0, slice_get_within words.numbers i x at, stands.count))
   ]
 
@@ -38,8 +37,7 @@ module _ (words : Words) (made : Made) (stands : StandsFor words made) where
       let s = store_at i x at in
       let is = stands.each i s.0 s.1.0 in
       let both : Some is.kept ≡ Some k = sym is.is ∙ kept in
-      let same : is.kept ≡ k = cc in
-      (
+      let same : is.kept ≡ k = cc in (
         is.head,
         (
           ap (λ (y : Kept). slice_get words.numbers y.head) (sym same) ∙ is.head_is,
@@ -87,7 +85,7 @@ module _ (words : Words) (made : Made) (stands : StandsFor words made) where
         λ reach. w.1 (links.1 (let p = chain_same made.stores stands.well.rises reach.h reach.i ha r.a.rank a reach.first first.1.1 in
             let q = chain_same made.stores stands.well.rises reach.k reach.j hb r.b.rank b reach.second second.1.1 in
             elim reach.leads [
-              inl t ↦ subst (λ (n : ℕ). Links made n hb) p.0 (subst (λ (n : ℕ). Links made reach.h n) q.0 t.1)
+              | inl t ↦ subst (λ (n : ℕ). Links made n hb) p.0 (subst (λ (n : ℕ). Links made reach.h n) q.0 t.1)
               | inr t ↦ absurd (differ (places (sym p.0 ∙ (t.0 ∙ q.0))))
             ])),
       ))

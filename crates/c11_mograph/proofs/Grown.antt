@@ -1,16 +1,16 @@
 -- Room alone changes nothing that a graph stands for.
-use Rattle.std.proofs.Common.{◌≡◌, ℕ, ◌<◌, ◌≤◌, List, Some, Bool, true, false, All, length, slice_get, vec_len, vec_capacity, sym, ap, ◌∙◌, subst, arith, ◌⊎◌, inl, inr}
+use Rattle.std.proofs.Common.{◌≡◌, ℕ, ◌<◌, List, Some, Bool, true, All, length, slice_get, vec_len, vec_capacity, sym, ap, ◌∙◌, subst, arith, inl, inr}
 use Rattle.std.specs.Global.{Vec}
 use Rattle.std.proofs.lemmas.Option.{slice_get_cases, slice_get_within, get_or_from_slice_get}
 use Rattle.c11_mograph.specs.Lists.{HaveGrown}
-use Rattle.c11_mograph.specs.Made.{Made, stores_of}
+use Rattle.c11_mograph.specs.Made.{Made}
 use Rattle.c11_mograph.specs.Words.{Words, AreSafe, StandsFor}
 
 module _ (old new : List (Vec ℕ)) (count : length new ≡ length old) (grown : HaveGrown old new) where
   -- the list that a cell had
   had : (cell : ℕ) (b : Vec ℕ) → slice_get new cell ≡ Some b → (a : Vec ℕ) × (slice_get old cell ≡ Some a)
   had cell b at = elim (slice_get_cases old cell).1 [
-    inl p ↦ (p.0, p.2)
+    | inl p ↦ (p.0, p.2)
     | inr p ↦ absurd (omega (arith, p.0, slice_get_within new cell b at))
   ]
 

@@ -8,5 +8,7 @@ pub mod Searched
 pub mod Found
 pub mod Linked
 pub mod Previous
+pub mod Added
+pub mod Own
 pub mod Grown
 pub mod Precedes

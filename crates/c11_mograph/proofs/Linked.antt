@@ -1,21 +1,20 @@
 -- A graph with a pair more: what its table says is what is reached.
-use Rattle.std.proofs.Common.{◌≡◌, ℕ, zero, suc, ◌<◌, ◌≤◌, ◌*◌, ◌↔◌, List, [], ◌∷◌, ◌++◌, Some, None, Bool, nat_eq, ◌+◌, length, slice_get, take, sym, ap, ◌∙◌, subst, refl, arith, append-nil, append_assoc, ◌⊎◌, inl, inr}
+use Rattle.std.proofs.Common.{◌≡◌, ℕ, zero, suc, ◌<◌, ◌≤◌, ◌*◌, ◌↔◌, List, [], ◌∷◌, ◌++◌, Some, Bool, nat_eq, ◌+◌, length, slice_get, take, sym, ap, ◌∙◌, subst, refl, arith, append-nil, append_assoc, ◌⊎◌, inl, inr}
 use Rattle.std.proofs.lemmas.Option.{slice_get_within, slice_get-get_or}
 use Rattle.std.proofs.lemmas.Nat.Bits.{bit_at-lt}
-use Rattle.std.specs.Global.{Vec}
 use native.Mathlib.Decide.{ℕ_discrete, dec_lt}
 use mathlib.Core.Logic.{dite}
-use Rattle.c11_events.specs.Closure.{Closure, one, join}
+use Rattle.c11_events.specs.Closure.{join}
 use Rattle.c11_events.proofs.Fitting.{Stay}
 use Rattle.c11_mograph.specs.declared.kept.Kept.{Kept}
 use Rattle.c11_mograph.specs.Table.{bit_of, IsLinked}
-use Rattle.c11_mograph.specs.Made.{OfOneCell, Store, Pair, Made, IsAdded, GoesOn, Chain, IsPair, Link, Links, Ordered, pairs_into, with_pairs}
+use Rattle.c11_mograph.specs.Made.{OfOneCell, Pair, Made, IsAdded, Chain, IsPair, Link, Links, Ordered, pairs_into, with_pairs}
 use Rattle.std.proofs.lemmas.Bool.{eq-eqb}
 use Rattle.std.proofs.lemmas.List.{take_more}
 use lib.ListN.{get_or}
-use Rattle.c11_mograph.specs.Words.{Words, WellMade, IsKept, StandsFor, LinksChains}
+use Rattle.c11_mograph.specs.Words.{Words, WellMade, StandsFor, LinksChains}
 use Rattle.c11_mograph.proofs.Found.{same_number, chain_at}
-use Rattle.c11_mograph.proofs.Orders.{Among, into_one, into_has, pair_cases, pair_more, pair_behind, ordered_less, into_cases, linked_less, linked_more, linked_same, linked_keeps, not_back}
+use Rattle.c11_mograph.proofs.Orders.{into_one, into_has, pair_cases, pair_more, pair_behind, ordered_less, into_cases, linked_less, linked_more, linked_same, linked_keeps, not_back}
 
 -- what is well made stays so
 pub still_well : (made : Made) (prior : List ℕ) (x : ℕ) → WellMade made → OfOneCell made.stores prior x → Ordered (with_pairs made prior x) → WellMade (with_pairs made prior x)
@@ -24,7 +23,7 @@ still_well made prior x well one_cell ordered = record {
   earlier = well.earlier;
   once = well.once;
   paired = λ a b p. elim (pair_cases made.pairs (pairs_into prior x) a b p) [
-    inl old ↦ well.paired a b old
+    | inl old ↦ well.paired a b old
     | inr new ↦ let q = into_cases prior x a b new in
         subst (λ (y : ℕ). IsAdded made.stores a (λ s. IsAdded made.stores y (λ t. s.cell ≡ t.cell))) (sym q.0) (one_cell q.1.1.place a q.1.1.is)
   ];
@@ -95,7 +94,7 @@ module _ (words : Words) (made : Made) (stands : StandsFor words made) (a b i j 
   reached_already set =
       let middle : Links made ha hb = (stands.reached ka.head kb.head ha hb first.1.0 second.1.0).0 set in
       unchanged (λ h k l. elim (less h k l) [
-        inl old ↦ old
+        | inl old ↦ old
         | inr p ↦ through h k middle p.0 p.1
       ])
     where
@@ -120,25 +119,25 @@ module _ (words : Words) (made : Made) (stands : StandsFor words made) (a b i j 
     -- what stays with a head is its place, or has its bit
     to_bit : (n x : ℕ) → slice_get words.numbers n ≡ Some x → Stay (Link made) x ha → (n ≡ ka.head) ⊎ (bit_of words.width words.bits ka.head n ≡ 1)
     to_bit n x at stay = elim stay [
-      inl e ↦ inl (unique n ka.head x at (first.1.0 ∙ ap (λ (k : ℕ). Some k) (sym e)))
+      | inl e ↦ inl (unique n ka.head x at (first.1.0 ∙ ap (λ (k : ℕ). Some k) (sym e)))
       | inr v ↦ inr ((stands.reached n ka.head x ha at first.1.0).1 v)
     ]
 
     from_bit : (n x : ℕ) → slice_get words.numbers n ≡ Some x → (n ≡ ka.head) ⊎ (bit_of words.width words.bits ka.head n ≡ 1) → Stay (Link made) x ha
     from_bit n x at way = elim way [
-      inl e ↦ let both : Some x ≡ Some ha = sym at ∙ (ap (λ (k : ℕ). slice_get words.numbers k) e ∙ first.1.0) in inl (let same : x ≡ ha = cc in same)
+      | inl e ↦ let both : Some x ≡ Some ha = sym at ∙ (ap (λ (k : ℕ). slice_get words.numbers k) e ∙ first.1.0) in inl (let same : x ≡ ha = cc in same)
       | inr set ↦ inr ((stands.reached n ka.head x ha at first.1.0).0 set)
     ]
 
     to_row : (m y : ℕ) → slice_get words.numbers m ≡ Some y → Stay (Link made) hb y → (m ≡ kb.head) ⊎ (bit_of words.width words.bits m kb.head ≡ 1)
     to_row m y at stay = elim stay [
-      inl e ↦ inl (unique m kb.head y at (second.1.0 ∙ ap (λ (k : ℕ). Some k) e))
+      | inl e ↦ inl (unique m kb.head y at (second.1.0 ∙ ap (λ (k : ℕ). Some k) e))
       | inr v ↦ inr ((stands.reached kb.head m hb y second.1.0 at).1 v)
     ]
 
     from_row : (m y : ℕ) → slice_get words.numbers m ≡ Some y → (m ≡ kb.head) ⊎ (bit_of words.width words.bits m kb.head ≡ 1) → Stay (Link made) hb y
     from_row m y at way = elim way [
-      inl e ↦ let both : Some hb ≡ Some y = sym second.1.0 ∙ (ap (λ (k : ℕ). slice_get words.numbers k) (sym e) ∙ at) in inl (let same : hb ≡ y = cc in same)
+      | inl e ↦ let both : Some hb ≡ Some y = sym second.1.0 ∙ (ap (λ (k : ℕ). slice_get words.numbers k) (sym e) ∙ at) in inl (let same : hb ≡ y = cc in same)
       | inr set ↦ inr ((stands.reached kb.head m hb y second.1.0 at).0 set)
     ]
 
@@ -148,14 +147,14 @@ module _ (words : Words) (made : Made) (stands : StandsFor words made) (a b i j 
       turned n m x y at at' way =
           let t = now.turned m n (slice_get_within words.numbers m y at') way (let w = slice_get_within words.numbers n x at in omega arith) in (
             λ set. elim (t.0 set) [
-              inl e ↦ more x y (inr (from_bit n x at (inl e), from_row m y at' way))
+              | inl e ↦ more x y (inr (from_bit n x at (inl e), from_row m y at' way))
               | inr p ↦ elim p [
-                inl old ↦ more x y (inl ((stands.reached n m x y at at').0 old))
+                | inl old ↦ more x y (inl ((stands.reached n m x y at at').0 old))
                 | inr taken ↦ more x y (inr (from_bit n x at (inr taken), from_row m y at' way))
               ]
             ],
             λ l. t.1 (elim (less x y l) [
-              inl old ↦ inr (inl ((stands.reached n m x y at at').1 old))
+              | inl old ↦ inr (inl ((stands.reached n m x y at at').1 old))
               | inr p ↦ elim (to_bit n x at p.0) [ inl e ↦ inl e | inr set ↦ inr (inr set) ]
             ]),
           )
@@ -181,20 +180,20 @@ module _ (words : Words) (made : Made) (stands : StandsFor words made) (a b i j 
           (λ (inside : row < length words.numbers).
           let beyond : length words.numbers ≤ column = elim out [ inl o ↦ absurd (omega arith) | inr o ↦ o ] in
           let never : bit_of words.width bits row column ≡ 1 → ⊥ = λ set. dite (ℕ_discrete row kb.head)
-              (λ (here : row ≡ kb.head). cleared row column inside beyond inner (inl here) set)
-              (λ (no_row : row ≡ kb.head → ⊥). dite (ℕ_discrete (bit_of words.width words.bits row kb.head) 1)
-              (λ (has : bit_of words.width words.bits row kb.head ≡ 1). cleared row column inside beyond inner (inr has) set)
-              (λ (no_bit : bit_of words.width words.bits row kb.head ≡ 1 → ⊥).
-              let same = now.kept row column (inr (no_row, no_bit)) inner in let zero_before = stands.clear row column (inr beyond) inner in omega arith)) in
+          (λ (here : row ≡ kb.head). cleared row column inside beyond inner (inl here) set)
+          (λ (no_row : row ≡ kb.head → ⊥). dite (ℕ_discrete (bit_of words.width words.bits row kb.head) 1)
+          (λ (has : bit_of words.width words.bits row kb.head ≡ 1). cleared row column inside beyond inner (inr has) set)
+          (λ (no_bit : bit_of words.width words.bits row kb.head ≡ 1 → ⊥).
+          let same = now.kept row column (inr (no_row, no_bit)) inner in let zero_before = stands.clear row column (inr beyond) inner in omega arith)) in
           bit_is words.width row column bits never)
           (λ (outside : row < length words.numbers → ⊥). now.kept row column (inl (omega arith)) inner ∙ stands.clear row column (inl (omega arith)) inner)
         where
           cleared : (row column : ℕ) → row < length words.numbers → length words.numbers ≤ column → column < words.width * 64
               → (row ≡ kb.head) ⊎ (bit_of words.width words.bits row kb.head ≡ 1) → bit_of words.width bits row column ≡ 1 → ⊥
           cleared row column inside beyond inner way set = elim ((now.turned row column inside way inner).0 set) [
-            inl e ↦ let w = slice_get_within words.numbers ka.head ha first.1.0 in omega arith
+            | inl e ↦ let w = slice_get_within words.numbers ka.head ha first.1.0 in omega arith
             | inr p ↦ elim p [
-              inl old ↦ let z = stands.clear row column (inr beyond) inner in omega arith
+              | inl old ↦ let z = stands.clear row column (inr beyond) inner in omega arith
               | inr taken ↦ let z = stands.clear ka.head column (inr beyond) inner in omega arith
             ]
           ]
@@ -250,12 +249,12 @@ order_step words new made prior x count lt one_cell ordered stands link =
     let here : ℕ = get_or prior count 0 in
     let at : slice_get prior count ≡ Some here = slice_get-get_or prior count 0 lt in
     let fewer : Ordered (with_pairs made (take (count + 1) prior) x) = ordered_less made.stores (made.pairs ++ pairs_into (take (count + 1) prior) x) (made.pairs ++ pairs_into prior x)
-        (λ a b p. elim (pair_cases made.pairs (pairs_into (take (count + 1) prior) x) a b p) [
-          inl old ↦ pair_more made.pairs (pairs_into prior x) a b old
-          | inr q ↦ let c = into_cases (take (count + 1) prior) x a b q in
-              subst (λ (y : ℕ). IsPair (made.pairs ++ pairs_into prior x) a y) (sym c.0)
-              (pair_behind made.pairs (pairs_into prior x) a x (into_has prior x a (record { place = c.1.1.place; is = among_take prior (count + 1) c.1.1.place a c.1.1.is }) c.1.0))
-        ]) ordered in
+    (λ a b p. elim (pair_cases made.pairs (pairs_into (take (count + 1) prior) x) a b p) [
+      | inl old ↦ pair_more made.pairs (pairs_into prior x) a b old
+      | inr q ↦ let c = into_cases (take (count + 1) prior) x a b q in
+          subst (λ (y : ℕ). IsPair (made.pairs ++ pairs_into prior x) a y) (sym c.0)
+          (pair_behind made.pairs (pairs_into prior x) a x (into_has prior x a (record { place = c.1.1.place; is = among_take prior (count + 1) c.1.1.place a c.1.1.is }) c.1.0))
+    ]) ordered in
     subst (λ (m : Made). StandsFor new m) (one_more made prior x count lt)
     (link (with_pairs made (take count prior) x) stands (λ i p among. lone_cell i p among) (subst (λ (m : Made). Ordered m) (sym (one_more made prior x count lt)) fewer))
   where

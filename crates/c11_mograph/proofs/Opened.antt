@@ -1,12 +1,11 @@
 -- A graph without a store.
-use Rattle.std.proofs.Common.{◌≡◌, ℕ, ◌<◌, ◌≤◌, ◌*◌, ◌↔◌, List, [], Some, None, Bool, All, length, slice_get, sym, ap, ◌∙◌, subst, refl, ◌⊎◌}
+use Rattle.std.proofs.Common.{◌≡◌, ℕ, List, [], Some, None, All, length, slice_get, sym, ap, ◌∙◌, subst}
 use Rattle.std.specs.Global.{Vec}
 use Rattle.std.proofs.lemmas.Option.{get_or_from_slice_get, slice_get_within}
 use Rattle.c11_events.specs.Closure.{one, join}
 use Rattle.c11_mograph.specs.Table.{bit_of}
-use Rattle.c11_mograph.specs.Made.{Store, Pair, Made, nothing_made, IsAdded, Chain, IsPair, Links, Ordered}
+use Rattle.c11_mograph.specs.Made.{Store, nothing_made, IsAdded, Links}
 use Rattle.c11_mograph.specs.Words.{Words, WellMade, StandsFor}
-use Rattle.c11_mograph.proofs.Chains.{chain_added}
 
 none_added : (x : ℕ) (P : Store → Type 0) → IsAdded [] x P → ⊥
 none_added x P t = let clash : None ≡ Some t.store = t.is in cc

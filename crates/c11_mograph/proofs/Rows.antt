@@ -1,5 +1,5 @@
 -- The rows of a table, linked one after the other.
-use Rattle.std.proofs.Common.{◌≡◌, ℕ, ◌<◌, ◌≤◌, ◌+◌, ◌*◌, ◌↔◌, ◌⊎◌, List, sym, ap, ◌∙◌, subst, inl, inr, arith}
+use Rattle.std.proofs.Common.{◌≡◌, ℕ, ◌<◌, ◌+◌, ◌*◌, ◌↔◌, ◌⊎◌, List, sym, ◌∙◌, subst, inl, inr, arith}
 use native.Mathlib.Decide.{ℕ_discrete}
 use mathlib.Core.Logic.{dite}
 use Rattle.c11_mograph.specs.Table.{bit_of, IsLinked, IsRowLinked}
@@ -15,7 +15,7 @@ module _ (width : ℕ) (old mid new : List ℕ) (row from to : ℕ) (from_is_oth
 
   pub differs : (row ≡ to) ⊎ (bit_of width mid row to ≡ 1) → row ≡ from → ⊥
   differs way same = elim way [
-    inl e ↦ from_is_other (sym same ∙ e)
+    | inl e ↦ from_is_other (sym same ∙ e)
     | inr b ↦ not_back (sym (from_before to to_within) ∙ subst (λ (r : ℕ). bit_of width mid r to ≡ 1) same b)
   ]
 
@@ -29,7 +29,7 @@ module _ (width : ℕ) (old mid new : List ℕ) (row from to : ℕ) (from_is_oth
           subst (λ (b : ℕ). (b ≡ 1) ↔ ((c ≡ from) ⊎ ((bit_of width old r c ≡ 1) ⊎ (bit_of width old from c ≡ 1)))) (sym e) (so_far.turned r c (omega arith) way inner));
       kept = λ r c way inner. dite (ℕ_discrete r row)
           (λ (here : r ≡ row). elim way [
-            inl above ↦ absurd (omega arith)
+            | inl above ↦ absurd (omega arith)
             | inr no' ↦ subst (λ (x : ℕ). bit_of width new x c ≡ bit_of width old x c) (sym here)
                 (now.kept c (λ e. no'.0 (here ∙ e)) (λ b. no'.1 (subst (λ (x : ℕ). bit_of width old x to ≡ 1) (sym here) (sym (as_before to to_within) ∙ b))) inner ∙ as_before c inner)
           ])

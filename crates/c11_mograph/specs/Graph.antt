@@ -1,5 +1,5 @@
 -- The fields of a graph.
-use Rattle.std.specs.Prelude.{ℕ, ◌≤◌, vec_capacity}
+use Rattle.std.specs.Prelude.{◌≤◌, vec_capacity}
 use Rattle.c11_mograph.specs.declared.graph.Graph.TheInside.{Inside}
 use Rattle.c11_mograph.specs.Words.{Words, AreSafe}
 

@@ -91,6 +91,8 @@ pub record IsChained (words : Words) (after : Option ℕ) (head rank : ℕ) : Ty
   pub goes_on : (y i : ℕ) (k : Kept) → after ≡ Some y → AreRising words.numbers → slice_get words.numbers i ≡ Some y → slice_get words.kept i ≡ Some k → (head ≡ k.head) × (rank ≡ k.rank + 1)
   pub head_within : head ≤ length words.numbers
   pub rank_within : rank ≤ length words.numbers
+  pub each : length words.kept ≡ length words.numbers
+  pub columns : words.size ≤ words.width * 64
 
 -- that a store goes on from y is kept; all else is as it was
 pub record Marks (old new : Words) (y : ℕ) : Type 0 where
@@ -108,3 +110,17 @@ pub record Pushes (old new : Words) (number : ℕ) (kept : Kept) : Type 0 where
   pub size : new.size ≡ old.size
   pub width : new.width ≡ old.width
   pub bits : new.bits ≡ old.bits
+
+-- that a store goes on from `after` is kept, if one does
+pub record MarksAfter (old new : Words) (after : Option ℕ) : Type 0 where
+  pub begins : after ≡ None → new ≡ old
+  pub marks : (y : ℕ) → after ≡ Some y → Marks old new y
+  pub rest : new ≡ record old { kept = new.kept }
+  pub count : length new.kept ≡ length old.kept
+
+-- there is one store more, and room for no further one yet; the counts with which the graph was opened are as they were
+pub record AddsOne (old new : Words) : Type 0 where
+  pub stores : length new.numbers ≡ length old.numbers + 1
+  pub cells : length new.lists ≡ length old.lists
+  pub threads : new.threads ≡ old.threads
+  pub size : new.size ≡ old.size

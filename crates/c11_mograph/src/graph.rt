@@ -37,7 +37,7 @@ impl Model for Graph {
 }
 
 impl Graph {
-    ghost use Rattle.c11_mograph.specs.Words.{StandsFor, HasSameCounts, ReachesPlace, LinksChains, KeepsAllButBits, IsChained, Marks, Pushes};
+    ghost use Rattle.c11_mograph.specs.Words.{StandsFor, HasSameCounts, ReachesPlace, LinksChains, KeepsAllButBits, IsChained, Marks, MarksAfter, Pushes, AddsOne};
 
     /// No store yet, for so many cells and threads, each numbered from 0, and so many stores. Memory for the stores and the table
     /// of which chain is reached is taken here.
@@ -154,6 +154,59 @@ impl Graph {
             }
         }
         true
+    }
+
+    /// Adds a store of the cell, with a number larger than all before, by the thread; with `after` it is a read-modify-write that goes
+    /// on from that store. The last earlier store of the cell by the thread is linked to it.
+    ///
+    /// Room was made since the last call. With `after`, that is a store of the cell that ends its chain, and the last earlier store of
+    /// the cell by the thread may precede it. Takes no memory.
+    pub fn add(&mut self, cell: u32, number: u32, thread: u32, after: Option<u32>)
+        requires cell { cell < length self.old.lists }
+        requires thread { thread < self.old.threads }
+        requires size { length self.old.numbers < self.old.size }
+        requires room { self.old.ready ≡ true }
+        ensures stands { (made : Made) → StandsFor self.old made → CanAdd made (record { cell = cell; number = number; thread = thread; after = after })
+            → StandsFor self.new (with_store made (record { cell = cell; number = number; thread = thread; after = after })) }
+        ensures counts { AddsOne self.old self.new }
+    {
+        let previous = self.last_of(cell, thread);
+        self.place_store(cell, number, thread, after);
+        if let Some(p) = previous {
+            self.link(p, number);
+        }
+    }
+
+    // Keeps a further store, without a link to it.
+    fn place_store(&mut self, cell: u32, number: u32, thread: u32, after: Option<u32>)
+        requires cell { cell < length self.old.lists }
+        requires size { length self.old.numbers < self.old.size }
+        requires room { self.old.ready ≡ true }
+        ensures stands { (made : Made) → StandsFor self.old made → CanAdd made (record { cell = cell; number = number; thread = thread; after = after })
+            → StandsFor self.new (record made { stores = made.stores ++ record { cell = cell; number = number; thread = thread; after = after } ∷ [] }) }
+        ensures counts { AddsOne self.old self.new }
+    {
+        let (head, rank) = self.chained(after);
+        self.mark_after(after);
+        self.push(
+            number,
+            Kept {
+                cell,
+                thread,
+                head,
+                rank,
+                ends: true,
+            },
+        );
+    }
+
+    // Keeps that a store goes on from `after`, if one does.
+    fn mark_after(&mut self, after: Option<u32>)
+        ensures { MarksAfter self.old self.new after }
+    {
+        if let Some(y) = after {
+            self.mark(y);
+        }
     }
 
     // Links the chain whose head is at the place `from` to the one whose head is at `to`.

@@ -1,4 +1,4 @@
-use Rattle.std.proofs.Common.{◌≡◌, Bool, IsTrue, false, true, ◌↔◌, subst, sym}
+use Rattle.std.proofs.Common.{◌≡◌, Bool, IsTrue, ◌↔◌, subst}
 use lib.ListN.{get_or}
 use Rattle.c11_mograph.specs.Made.{Reach}
 use Rattle.c11_mograph.proofs.Precedes.{fits_more, all_fit, one_unfit}

@@ -1,4 +1,4 @@
-use Rattle.std.proofs.Common.{◌≡◌, ◌∙◌, ◌*◌, ◌<◌, ℕ, arith, subst}
+use Rattle.std.proofs.Common.{◌∙◌, ◌*◌, ◌<◌, ℕ, arith, subst}
 use Rattle.c11_mograph.specs.Table.{IsRowLinked}
 use Rattle.c11_mograph.proofs.Rows.{linked_step}
 use Rattle.c11_mograph.proofs.table.Table.link.Goals as goal
