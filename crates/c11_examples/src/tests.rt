@@ -265,12 +265,13 @@ fn a_compare_exchange_writes_where_it_finds_what_it_expects(rt: HostRuntime) -> 
     let alloc = rt.alloc();
     // Behind an addition of 1 to 0. From 0 it fails with the addition alone, since two read-modify-writes do not read one store;
     // from 1 it succeeds with the addition and fails with the first value.
-    let behind_addition: [(i32, &[u32], &[u32]); 2] = [(0, &[7], &[7]), (1, &[1, 7], &[8])];
+    let behind_addition: [(i32, &[u32], u32); 2] = [(0, &[7], 7), (1, &[1, 7], 8)];
     for (expected, offers, last) in behind_addition {
+        let next = [last];
         let steps = [
             (1, Act::Add(0, RELAXED, &[1], 1)),
             (2, Act::Exchange(expected, 9, offers, 7)),
-            (2, Act::Load(0, RELAXED, last, 7)),
+            (2, Act::Load(0, RELAXED, &next, last)),
         ];
         play(&rt, alloc, 1, 2, &steps)?;
     }
