@@ -3,6 +3,8 @@ ghost use Rattle.std.specs.Prelude.{◌≡◌, ◌+◌, ◌<◌, ◌≤◌, ℕ,
 ghost use Rattle.c11_events.specs.Events.{locked_mutex, unlocked_mutex};
 ghost use Rattle.c11_events.specs.Threads.{holder_next, option_is};
 ghost use Rattle.std.specs.HashMap.{spare};
+ghost use Rattle.c11_happens.specs.Mutexes.{state_in};
+ghost use Rattle.c11_happens.specs.Noting.{mutex_next};
 
 use crate::kinds;
 use c11_events::Event;
@@ -18,9 +20,6 @@ pub(crate) struct MutexState {
 
 /// What is kept of the mutexes that were locked or unlocked, by their numbers.
 pub(crate) type Mutexes = HashMap<u32, MutexState>;
-
-ghost use Rattle.c11_happens.specs.Noting.{mutex_next};
-ghost use Rattle.c11_happens.specs.Mutexes.{state_in};
 
 // Whether the event asks for the mutex.
 fn locks(event: &Event, mutex: u32) -> bool
