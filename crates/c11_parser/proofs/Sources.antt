@@ -1,5 +1,5 @@
 -- Trees of a source.
-use Rattle.std.proofs.Common.{◌≡◌, ◌≢◌, ◌<◌, ◌≤◌, ℕ, zero, suc, Result, Ok, Err, IfOk, IfErr, MatchResult, List, [], ◌∷◌, length, All, refl, ap, arith}
+use Rattle.std.proofs.Common.{◌≡◌, ◌≢◌, ◌≤◌, ℕ, Result, Ok, Err, IfOk, IfErr, MatchResult, List, length, All, refl, ap, arith}
 use Rattle.std.specs.List.{AllByRecursion}
 use Rattle.std.proofs.lemmas.List.Elements.{All-from_recursion}
 use Rattle.c11_lexer.specs.declared.token.Token.{Token}
@@ -8,7 +8,6 @@ use Rattle.c11_lexer.specs.Scan as scan
 use Rattle.c11_ast.specs.declared.place.Spot.{Spot}
 use Rattle.c11_ast.specs.declared.item.Program.{Program}
 use Rattle.c11_ast.specs.declared.item.Item.{Item}
-use Rattle.c11_grammar.specs.declared.token.Lexeme.{Lexeme}
 use Rattle.c11_grammar.specs.Laws as law
 use Rattle.c11_grammar.proofs.Runs as runs
 use Rattle.c11_parser.specs.declared.whole.SyntaxFault.{SyntaxFault}

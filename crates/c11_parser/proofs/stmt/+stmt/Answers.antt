@@ -1,4 +1,4 @@
-use Rattle.std.proofs.Common.{rules, arith, ◌+◌}
+use Rattle.std.proofs.Common.{rules, arith}
 use Rattle.std.proofs.lemmas.Grind.{common_steps}
 use Rattle.c11_grammar.specs.Reading.{readers, assign_of, decl_reader, stmt_reader, block_items, arms, given, and_then}
 use Rattle.c11_parser.proofs.Turns.{one_more, no_more}

@@ -1,4 +1,4 @@
-use Rattle.std.proofs.Common.{rules, ◌≡◌, ◌∷◌, [], ◌++◌, length, arith}
+use Rattle.std.proofs.Common.{rules, ◌≡◌, ◌∷◌, [], ◌++◌, arith}
 use Rattle.c11_grammar.specs.Programs as g
 use Rattle.c11_grammar.proofs.ItemComplete.{item_shorter}
 use Rattle.c11_grammar.proofs.Runs.{read_item, run_longer, no_program_at}
