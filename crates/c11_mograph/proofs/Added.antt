@@ -12,7 +12,8 @@ use Rattle.c11_events.proofs.Longer.{get_last}
 use Rattle.c11_mograph.specs.declared.kept.Kept.{Kept}
 use Rattle.c11_mograph.specs.Table.{bit_of}
 use Rattle.c11_mograph.specs.Made.{Store, Made, IsAdded, GoesOn, Chain, here, next, IsPair, Link, Links, Ordered, CanAdd, stores_of}
-use Rattle.c11_mograph.specs.Words.{Words, WellMade, IsKept, StandsFor, IsChained, Marks, Pushes}
+use Rattle.c11_mograph.specs.Words.{Words, WellMade, IsKept, StandsFor}
+use Rattle.c11_mograph.specs.Parts.{IsChained, Marks, Pushes}
 use Rattle.c11_mograph.proofs.Chains.{chain_head, added_more, added_last, added_cases, chain_more, chain_less}
 use Rattle.c11_mograph.proofs.Found.{store_at, rising, number_at, chain_at}
 use Rattle.c11_mograph.proofs.Places.{more_at}

@@ -5,7 +5,8 @@ use native.Mathlib.Decide.{ℕ_discrete, dec_lt}
 use mathlib.Core.Logic.{dite}
 use Rattle.c11_mograph.specs.declared.kept.Kept.{Kept}
 use Rattle.c11_mograph.specs.Made.{Store, Made, IsAdded, GoesOn, Chain, Links, Reach, AreRising}
-use Rattle.c11_mograph.specs.Words.{Words, StandsFor, ReachesPlace}
+use Rattle.c11_mograph.specs.Words.{Words, StandsFor}
+use Rattle.c11_mograph.specs.Parts.{ReachesPlace}
 use Rattle.c11_mograph.proofs.Chains.{chain_added, chain_same}
 
 module _ (words : Words) (made : Made) (stands : StandsFor words made) where

@@ -12,7 +12,8 @@ use Rattle.c11_mograph.specs.Made.{OfOneCell, Pair, Made, IsAdded, Chain, IsPair
 use Rattle.std.proofs.lemmas.Bool.{eq-eqb}
 use Rattle.std.proofs.lemmas.List.{take_more}
 use lib.ListN.{get_or}
-use Rattle.c11_mograph.specs.Words.{Words, WellMade, StandsFor, LinksChains}
+use Rattle.c11_mograph.specs.Words.{Words, WellMade, StandsFor}
+use Rattle.c11_mograph.specs.Parts.{LinksChains}
 use Rattle.c11_mograph.proofs.Found.{same_number, chain_at}
 use Rattle.c11_mograph.proofs.Orders.{into_one, into_has, pair_cases, pair_more, pair_behind, ordered_less, into_cases, linked_less, linked_more, linked_same, linked_keeps, not_back}
 

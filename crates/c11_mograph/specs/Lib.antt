@@ -4,3 +4,4 @@ pub mod Words
 pub mod Graph
 pub mod Lists
 pub mod Places
+pub mod Parts

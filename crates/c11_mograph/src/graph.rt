@@ -37,7 +37,8 @@ impl Model for Graph {
 }
 
 impl Graph {
-    ghost use Rattle.c11_mograph.specs.Words.{StandsFor, HasSameCounts, ReachesPlace, LinksChains, KeepsAllButBits, IsChained, Marks, MarksAfter, Pushes, AddsOne};
+    ghost use Rattle.c11_mograph.specs.Words.{StandsFor, HasSameCounts, KeepsAllButBits, AddsOne};
+    ghost use Rattle.c11_mograph.specs.Parts.{ReachesPlace, LinksChains, IsChained, Marks, MarksAfter, Pushes};
 
     /// No store yet, for so many cells and threads, each numbered from 0, and so many stores. Memory for the stores and the table
     /// of which chain is reached is taken here.
