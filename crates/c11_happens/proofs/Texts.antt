@@ -153,9 +153,9 @@ holder_same held mutex (suc a) (e ∷ events) = holder_same (holder_next held mu
     next_same None = ap (λ (o : Option ℕ). cond (option_is o mutex) (Some e.thread) None) (sym (same_kind locked_mutex (λ _. refl) e.kind))
     next_same (Some u) = ap (λ (o : Option ℕ). cond (option_is o mutex) (cond (nat_eq e.thread u) None (Some u)) (Some u)) (sym (same_kind unlocked_mutex (λ _. refl) e.kind))
 
-covers_at : (events others : List Event) (alike : AreAlike others events) (clock : List ℕ) (b : ℕ) → ((a : ℕ) → UpTo events b a → UpTo others b a) → ((a : ℕ) → UpTo others b a → UpTo events b a)
-    → CoversExactly events clock (UpTo events b) → CoversExactly others clock (UpTo others b)
-covers_at events others alike clock b to from covers a e at =
+covers_at : (events others : List Event) (alike : AreAlike others events) (clock : List ℕ) (P Q : ℕ → Type 0) → ((a : ℕ) → P a → Q a) → ((a : ℕ) → Q a → P a)
+    → CoversExactly events clock P → CoversExactly others clock Q
+covers_at events others alike clock P Q to from covers a e at =
     let t = alike a e at in
     let exact = covers a t.event t.is in
     let thread : e.thread ≡ t.event.thread = ap (λ (g : Event). g.thread) t.holds in
@@ -175,7 +175,8 @@ texts_do_not_matter events =
       creates = λ thread c. (created_at less events (with_texts events) (without events) back backs thread c, created_at events less (without events) (with_texts events) counts holders thread c);
       none = λ thread. (none_at less events (with_texts events) (without events) back backs thread, none_at events less (without events) (with_texts events) counts holders thread);
       covers = λ clock b. (
-        covers_at less events (without events) clock b (λ a. up_to_at less events (with_texts events) (without events) back backs a b) (λ a. up_to_at events less (without events) (with_texts events) counts holders a b),
-        covers_at events less (with_texts events) clock b (λ a. up_to_at events less (without events) (with_texts events) counts holders a b) (λ a. up_to_at less events (with_texts events) (without events) back backs a b),
+        covers_at less events (without events) clock (UpTo less b) (UpTo events b) (λ a. up_to_at less events (with_texts events) (without events) back backs a b) (λ a. up_to_at events less (without events) (with_texts events) counts holders a b),
+        covers_at events less (with_texts events) clock (UpTo events b) (UpTo less b) (λ a. up_to_at events less (without events) (with_texts events) counts holders a b) (λ a. up_to_at less events (with_texts events) (without events) back backs a b),
       );
+      nothing = λ clock. (covers_at less events (without events) clock (λ _. ⊥) (λ _. ⊥) (λ a p. p) (λ a p. p), covers_at events less (with_texts events) clock (λ _. ⊥) (λ _. ⊥) (λ a p. p) (λ a p. p));
     }

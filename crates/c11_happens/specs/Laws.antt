@@ -14,6 +14,7 @@ pub record IsSameWithTexts (events : List Event) : Type 0 where
   pub creates : (thread c : ℕ) → IsCreateOf (map textless events) thread c ↔ IsCreateOf events thread c
   pub none : (thread : ℕ) → HasNoEvent (map textless events) thread ↔ HasNoEvent events thread
   pub covers : (clock : List ℕ) (b : ℕ) → CoversExactly (map textless events) clock (UpTo (map textless events) b) ↔ CoversExactly events clock (UpTo events b)
+  pub nothing : (clock : List ℕ) → CoversExactly (map textless events) clock (λ _. ⊥) ↔ CoversExactly events clock (λ _. ⊥)
 
 abbrev pub TextsDoNotMatter : Type 0
 TextsDoNotMatter = (events : List Event) → IsSameWithTexts events
