@@ -531,7 +531,11 @@ fn chains_decide_what_orders_decide(rt: HostRuntime) -> Result<(), Fail> {
             consistent = consistent.saturating_add(1);
         }
     }
-    println!(rt; "{consistent} of {LISTS}")?;
+    // Both kinds of lists were drawn, many of each.
+    assert!(rt;
+        LISTS / 4 < consistent && consistent < LISTS / 4 * 3,
+        "{consistent} of {LISTS}"
+    );
     Ok(())
 }
 
