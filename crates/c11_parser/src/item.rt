@@ -4,13 +4,12 @@ ghost use Rattle.std.specs.Prelude.{◌≡◌};
 ghost use Rattle.c11_grammar.specs.Reading as spec;
 ghost use Rattle.c11_grammar.specs.Gives.{Gives};
 
-use crate::declaration::{params, vars};
-use crate::stmt::block_after;
 use c11_ast::{Function, GlobalKind, Item, Many, Spot, Var, Word};
 use c11_grammar::front::{expect, literal, name, skip, spot, take};
 use c11_grammar::types::{expect_answer, expect_atomic, integer};
 use c11_grammar::{Lexeme, Mark, Stop};
 use c11_num::CType;
+use c11_statements::{block_after, params, vars};
 use std::alloc::Global;
 
 /// The type and the names of a global declaration.

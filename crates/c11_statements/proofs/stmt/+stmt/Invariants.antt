@@ -1,6 +1,6 @@
 use Rattle.std.proofs.Common.{◌≡◌, [], ◌+◌, ◌-◌, ◌*◌, length}
 use Rattle.c11_grammar.specs.Reading.{readers, assign_of, decl_reader, stmt_reader, block_items, arms}
-use Rattle.c11_parser.proofs.stmt.+stmt.Given as goal
+use Rattle.c11_statements.proofs.stmt.+stmt.Given as goal
 
 abbrev pub decreases-inner : goal.decreases-inner
 decreases-inner l = l.room * 16

@@ -1,8 +1,8 @@
 use Rattle.std.proofs.Common.{rules, arith}
 use Rattle.std.proofs.lemmas.Grind.{common_steps}
 use Rattle.c11_grammar.specs.Reading.{commas, var_of, given, and_then}
-use Rattle.c11_parser.proofs.Turns.{one_more, no_more}
-use Rattle.c11_parser.proofs.declaration.vars.Goals as goal
+use Rattle.c11_statements.proofs.Turns.{one_more, no_more}
+use Rattle.c11_statements.proofs.declaration.vars.Goals as goal
 
 pub returns-in_default : goal.returns-in_default
 unfolding commas given and_then

@@ -1,8 +1,8 @@
 use Rattle.std.proofs.Common.{rules, arith}
 use Rattle.std.proofs.lemmas.Grind.{common_steps}
 use Rattle.c11_grammar.specs.Reading.{readers, assign_of, decl_reader, stmt_reader, block_items, arms, given, and_then}
-use Rattle.c11_parser.proofs.Turns.{one_more, no_more}
-use Rattle.c11_parser.proofs.stmt.+stmt.Goals as goal
+use Rattle.c11_statements.proofs.Turns.{one_more, no_more}
+use Rattle.c11_statements.proofs.stmt.+stmt.Goals as goal
 
 pub block_items-returns-in-Some : goal.block_items-returns-in-Some
 unfolding block_items given and_then
