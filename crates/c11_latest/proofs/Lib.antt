@@ -1,3 +1,4 @@
+mod Bounds
 mod Places
 mod Linking
 mod Searching

@@ -1,22 +1,12 @@
 -- A further note keeps the notes linked.
-use Rattle.std.proofs.Common.{◌≡◌, ℕ, zero, suc, ◌<◌, ◌≤◌, ◌+◌, ◌&&◌, Bool, true, false, List, [], ◌∷◌, ◌++◌, Option, Some, None, slice_get, length, nat_eq, if◌then◌else◌, refl, sym, ap, ◌∙◌, subst, arith, ◌⊎◌, inl, inr}
+use Rattle.std.proofs.Common.{◌≡◌, ℕ, suc, ◌<◌, ◌+◌, ◌&&◌, Bool, true, false, List, [], ◌∷◌, ◌++◌, Option, Some, slice_get, length, nat_eq, if◌then◌else◌, sym, ap, ◌∙◌, subst, arith, ◌⊎◌, inl, inr}
 use Rattle.std.proofs.lemmas.List.{length-append}
 use Rattle.std.proofs.lemmas.Bool.Decides.{eqb_tells}
 use Rattle.c11_latest.specs.declared.latest.Note.{Note}
 use Rattle.c11_latest.specs.declared.links.Link.{Link}
 use Rattle.c11_latest.specs.Notes.{note, IsNoted}
 use Rattle.c11_latest.specs.Linked.{IsOf, IsLastPlace, IsBehind, IsLinkAfter, same_pair, IsLinked}
-use Rattle.c11_latest.proofs.Places.{get_more, get_last, old_or_last, inside, one_at, of_more, of_less, place_more, place_past}
-
-pub no_notes : (tops : ℕ → ℕ → Option ℕ) → ((cell thread : ℕ) → tops cell thread ≡ None) → IsLinked [] [] tops
-no_notes tops none = record {
-  rises = λ cell thread i j x y at at' less. cc;
-  count = refl;
-  before = λ cell thread i l at o. cc;
-  jump = λ cell thread i j l at e o. cc;
-  back = λ i j l at e. cc;
-  last = λ cell thread. subst (λ (o : Option ℕ). IsLastPlace [] cell thread 0 o) (sym (none cell thread)) (λ q less o. omega arith);
-}
+use Rattle.c11_latest.proofs.Places.{get_last, old_or_last, inside, one_at, of_more, of_less, place_more, place_past}
 
 same_note : (c t n d u m : ℕ) → note c t n ≡ note d u m → (c ≡ d) × (t ≡ u) × (n ≡ m)
 same_note c t n d u m e = (ap (λ (x : Note). x.cell) e, ap (λ (x : Note). x.thread) e, ap (λ (x : Note). x.number) e)
@@ -44,7 +34,7 @@ module _ (notes : List Note) (links : List Link) (tops : ℕ → ℕ → Option 
   behind p far less o b = elim b [
     | inl same ↦ (omega (arith, same), subst (λ (k : ℕ). IsOf notes c t k) (sym same) o)
     | inr two ↦ let first = linked.back p two.2 two.0 two.3 two.4 in let second = linked.back two.2 far two.1 two.5 two.6 in
-      (omega arith, linked.jump c t two.2 far two.1 two.5 two.6 (linked.jump c t p two.2 two.0 two.3 two.4 o))
+        (omega arith, linked.jump c t two.2 far two.1 two.5 two.6 (linked.jump c t p two.2 two.0 two.3 two.4 o))
   ]
 
   leads : (far : ℕ) → l.jump ≡ Some far → (far < length notes) × IsOf notes c t far
@@ -59,7 +49,7 @@ module _ (notes : List Note) (links : List Link) (tops : ℕ → ℕ → Option 
     | inl old ↦ elim (old_or_last notes (note c t n) j (note cell thread y) at') [
       | inl old' ↦ linked.rises cell thread i j x y old.1 old'.1 less
       | inr new ↦ let s = same_note c t n cell thread y new.1 in
-        let is : IsNoted notes c t x = (i, old.1 ∙ (λ k. Some (note (sym s.0 k) (sym s.1 k) x))) in let below = rise x is in omega (arith, s.2)
+          let is : IsNoted notes c t x = (i, old.1 ∙ (λ k. Some (note (sym s.0 k) (sym s.1 k) x))) in let below = rise x is in omega (arith, s.2)
     ]
     | inr new ↦ let inside' = inside longer j (note cell thread y) at' in absurd (omega (arith, new.0, inside', length-append notes (note c t n ∷ [])))
   ]
@@ -67,21 +57,21 @@ module _ (notes : List Note) (links : List Link) (tops : ℕ → ℕ → Option 
   before : (cell thread i : ℕ) (m : Link) → slice_get (links ++ l ∷ []) i ≡ Some m → IsOf longer cell thread i → IsLastPlace longer cell thread i m.before
   before cell thread i m at o = elim (old_or_last links l i m at) [
     | inl old ↦ place_more notes (note c t n) cell thread i m.before (omega (arith, old.0, linked.count))
-      (linked.before cell thread i m old.1 (of_less notes (note c t n) cell thread i (omega (arith, old.0, linked.count)) o))
+        (linked.before cell thread i m old.1 (of_less notes (note c t n) cell thread i (omega (arith, old.0, linked.count)) o))
     | inr new ↦ let end : i ≡ length notes = omega (arith, new.0, linked.count) in
-      let pair = new_pair cell thread (subst (λ (k : ℕ). IsOf longer cell thread k) end o) in
-      let is : m.before ≡ tops cell thread = ap (λ (x : Link). x.before) (sym new.1) ∙ (after.before ∙ (λ k. tops (pair.0 k) (pair.1 k))) in
-      subst (λ (k : ℕ). IsLastPlace longer cell thread k m.before) (sym end)
-      (subst (λ (p : Option ℕ). IsLastPlace longer cell thread (length notes) p) (sym is) (place_more notes (note c t n) cell thread (length notes) (tops cell thread) (omega arith) (linked.last cell thread)))
+        let pair = new_pair cell thread (subst (λ (k : ℕ). IsOf longer cell thread k) end o) in
+        let is : m.before ≡ tops cell thread = ap (λ (x : Link). x.before) (sym new.1) ∙ (after.before ∙ (λ k. tops (pair.0 k) (pair.1 k))) in
+        subst (λ (k : ℕ). IsLastPlace longer cell thread k m.before) (sym end)
+        (subst (λ (p : Option ℕ). IsLastPlace longer cell thread (length notes) p) (sym is) (place_more notes (note c t n) cell thread (length notes) (tops cell thread) (omega arith) (linked.last cell thread)))
   ]
 
   jump : (cell thread i j : ℕ) (m : Link) → slice_get (links ++ l ∷ []) i ≡ Some m → m.jump ≡ Some j → IsOf longer cell thread i → IsOf longer cell thread j
   jump cell thread i j m at e o = elim (old_or_last links l i m at) [
     | inl old ↦ of_more notes (note c t n) cell thread j (linked.jump cell thread i j m old.1 e (of_less notes (note c t n) cell thread i (omega (arith, old.0, linked.count)) o))
     | inr new ↦ let end : i ≡ length notes = omega (arith, new.0, linked.count) in
-      let pair = new_pair cell thread (subst (λ (k : ℕ). IsOf longer cell thread k) end o) in
-      let is = leads j (ap (λ (x : Link). x.jump) new.1 ∙ e) in
-      subst (λ (p : ℕ × ℕ). IsOf longer p.0 p.1 j) (λ k. (pair.0 k, pair.1 k)) (of_more notes (note c t n) c t j is.1)
+        let pair = new_pair cell thread (subst (λ (k : ℕ). IsOf longer cell thread k) end o) in
+        let is = leads j (ap (λ (x : Link). x.jump) new.1 ∙ e) in
+        subst (λ (p : ℕ × ℕ). IsOf longer p.0 p.1 j) (λ k. (pair.0 k, pair.1 k)) (of_more notes (note c t n) c t j is.1)
   ]
 
   back : (i j : ℕ) (m : Link) → slice_get (links ++ l ∷ []) i ≡ Some m → m.jump ≡ Some j → j < i
@@ -94,10 +84,10 @@ module _ (notes : List Note) (links : List Link) (tops : ℕ → ℕ → Option 
     last : (cell thread : ℕ) → IsLastPlace longer cell thread (length longer) (later cell thread)
     last cell thread = subst (λ (k : ℕ). IsLastPlace longer cell thread k (later cell thread)) (sym (length-append notes (note c t n ∷ []) ∙ omega arith)) (elim (pair_cases c t cell thread) [
       | inl same ↦ subst (λ (o : Option ℕ). IsLastPlace longer cell thread (suc (length notes)) o) (sym (put cell thread ∙ ap (λ (b : Bool). if b then Some (length notes) else tops cell thread) same.0))
-        (omega arith, (n, get_last notes (note c t n) ∙ (λ k. Some (note (same.1 k) (same.2 k) n))), λ q above less o. absurd (omega arith))
+          (omega arith, (n, get_last notes (note c t n) ∙ (λ k. Some (note (same.1 k) (same.2 k) n))), λ q above less o. absurd (omega arith))
       | inr other ↦ subst (λ (o : Option ℕ). IsLastPlace longer cell thread (suc (length notes)) o) (sym (put cell thread ∙ ap (λ (b : Bool). if b then Some (length notes) else tops cell thread) other.0))
-        (place_past notes (note c t n) cell thread (length notes) (tops cell thread) (λ o. let pair = new_pair cell thread o in other.1 pair.0 pair.1)
-        (place_more notes (note c t n) cell thread (length notes) (tops cell thread) (omega arith) (linked.last cell thread)))
+          (place_past notes (note c t n) cell thread (length notes) (tops cell thread) (λ o. let pair = new_pair cell thread o in other.1 pair.0 pair.1)
+          (place_more notes (note c t n) cell thread (length notes) (tops cell thread) (omega arith) (linked.last cell thread)))
     ])
 
     pub noted : IsLinked (notes ++ note c t n ∷ []) (links ++ l ∷ []) later

@@ -1,10 +1,10 @@
 -- A search among the notes of a pair.
-use Rattle.std.proofs.Common.{◌≡◌, ℕ, zero, suc, ◌<◌, ◌≤◌, List, [], ◌∷◌, Option, Some, None, MatchOption, slice_get, length, refl, sym, ap, ◌∙◌, subst, arith, ◌⊎◌, inl, inr}
-use native.Mathlib.Decide.{dec_lt, ℕ_discrete}
+use Rattle.std.proofs.Common.{◌≡◌, ℕ, suc, ◌<◌, ◌≤◌, List, Option, Some, None, MatchOption, slice_get, length, sym, ap, ◌∙◌, subst, arith, inl, inr}
+use native.Mathlib.Decide.{dec_lt}
 use mathlib.Core.Logic.{dite}
 use Rattle.c11_latest.specs.declared.latest.Note.{Note}
 use Rattle.c11_latest.specs.declared.links.Link.{Link}
-use Rattle.c11_latest.specs.Notes.{note, IsNoted, HasNoneUpTo, IsLastUpTo}
+use Rattle.c11_latest.specs.Notes.{note, HasNoneUpTo, IsLastUpTo}
 use Rattle.c11_latest.specs.Linked.{IsOf, IsLastPlace, IsStep, IsLinked}
 use Rattle.c11_latest.proofs.Places.{inside, one_at}
 
@@ -58,11 +58,11 @@ module _ (notes : List Note) (cell thread bound : ℕ) where
       step next s = elim s.2 [
         | inl e ↦ subst (λ (o : Option ℕ). AreAbove notes cell thread bound o × (measure o < suc p)) (sym e) (by_before s.0.before (linked.before cell thread p s.0 s.1 above.0))
         | inr j ↦
-          let far = j.0 in
-          let of_far = linked.jump cell thread p far s.0 s.1 j.3 above.0 in
-          let less = linked.back p far s.0 s.1 j.3 in
-          let is = ap (λ (x : Note). x.number) (one_at notes far j.1 (note cell thread of_far.0) j.4 of_far.1) in
-          let moved : AreAbove notes cell thread bound (Some far) × (measure (Some far) < suc p) =
-          ((of_far, λ q x behind at'. let rise = linked.rises cell thread far q of_far.0 x of_far.1 at' behind in omega (arith, is, j.5)), omega arith) in
-          subst (λ (o : Option ℕ). AreAbove notes cell thread bound o × (measure o < suc p)) (sym j.2) moved
+            let far = j.0 in
+            let of_far = linked.jump cell thread p far s.0 s.1 j.3 above.0 in
+            let less = linked.back p far s.0 s.1 j.3 in
+            let is = ap (λ (x : Note). x.number) (one_at notes far j.1 (note cell thread of_far.0) j.4 of_far.1) in
+            let moved : AreAbove notes cell thread bound (Some far) × (measure (Some far) < suc p) =
+            ((of_far, λ q x behind at'. let rise = linked.rises cell thread far q of_far.0 x of_far.1 at' behind in omega (arith, is, j.5)), omega arith) in
+            subst (λ (o : Option ℕ). AreAbove notes cell thread bound o × (measure o < suc p)) (sym j.2) moved
       ]

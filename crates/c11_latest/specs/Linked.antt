@@ -1,5 +1,5 @@
 -- The ways back from a note to earlier ones of its pair.
-use Rattle.std.specs.Prelude.{ℕ, ◌≡◌, ◌<◌, ◌≤◌, ◌+◌, ◌&&◌, Bool, List, Option, Some, None, MatchOption, length, slice_get, nat_eq, ◌⊎◌}
+use Rattle.std.specs.Prelude.{ℕ, ◌≡◌, ◌<◌, ◌≤◌, ◌+◌, ◌&&◌, Bool, List, Option, Some, MatchOption, length, slice_get, nat_eq, ◌⊎◌}
 use Rattle.std.specs.HashMap.{HashMap, get}
 use Rattle.c11_latest.specs.declared.latest.Note.{Note}
 use Rattle.c11_latest.specs.declared.links.Link.{Link}

@@ -1,4 +1,4 @@
-use Rattle.std.proofs.Common.{◌≡◌, ◌<◌, ◌≤◌, ◌∙◌, ℕ, suc, List, Option, Some, length, slice_get, ap, sym, subst, arith}
+use Rattle.std.proofs.Common.{◌<◌, ℕ, suc, List, Option, length, ap, sym, subst, arith}
 use Rattle.c11_latest.specs.declared.latest.Note.{Note}
 use Rattle.c11_latest.specs.declared.links.Link.{Link}
 use Rattle.c11_latest.specs.Notes.{Notes, HasNoneUpTo, IsLastUpTo}

@@ -1,4 +1,4 @@
-use Rattle.std.proofs.Common.{◌≡◌, ◌<◌, ◌≤◌, ◌+◌, ◌∙◌, ℕ, List, [], ◌∷◌, ◌++◌, Option, Some, length, ap, sym, subst, if◌then◌else◌, arith}
+use Rattle.std.proofs.Common.{◌≡◌, ◌<◌, ◌+◌, ◌∙◌, ℕ, List, [], ◌∷◌, ◌++◌, Option, Some, length, ap, sym, subst, if◌then◌else◌, arith}
 use Rattle.std.proofs.lemmas.List.{length-append}
 use Rattle.c11_latest.specs.declared.latest.Note.{Note}
 use Rattle.c11_latest.specs.declared.links.Link.{Link}
