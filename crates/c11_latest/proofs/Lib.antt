@@ -1,4 +1,4 @@
-mod Bounds
-mod Places
+pub mod Bounds
+pub mod Places
 mod Linking
 mod Searching

@@ -1,0 +1,4 @@
+mod Answering
+mod Basic
+mod Deciding
+mod Keeping

@@ -1,0 +1,26 @@
+-- This is all of the order of the seq_cst events that the rules need.
+use Rattle.std.specs.Prelude.{ℕ, suc, ◌≡◌, ◌↔◌, true, List, [], ◌∷◌, ◌++◌, length, ◌⊎◌}
+use Rattle.c11_events.specs.declared.event.Event.{Event}
+use Rattle.c11_events.specs.Events.{is_seq_cst}
+use Rattle.c11_events.specs.HappensBefore.{ProgramOrder}
+use Rattle.c11_events.specs.Lawful.{Fenced, IsLastSeqCst}
+use Rattle.c11_scorder.specs.SeqCst.{IsLast, IsStoreOf, IsSeqCstStore, IsSeqCstFenceOf, IsBeforeFence}
+
+-- the fence f decides which stores of the thread the further event e must not precede: it is the last seq_cst fence of e's thread
+-- or, where e is seq_cst, of the thread itself
+pub data IsDecisive (events : List Event) (e : Event) (thread f : ℕ) : Type 0 where
+  own : IsLast (IsSeqCstFenceOf events e.thread) f → IsDecisive events e thread f
+  other : is_seq_cst e.kind ≡ true → IsLast (IsSeqCstFenceOf events thread) f → IsDecisive events e thread f
+
+-- a store that fences hold before a further event is before a decisive fence; and a store before a decisive fence is held before the
+-- event by fences, or stands before it in their thread
+abbrev pub FencesDecide : Type 0
+FencesDecide = (events : List Event) (e : Event) (cell thread a : ℕ) → IsStoreOf events cell thread a
+    → (Fenced (events ++ e ∷ []) a (suc (length events)) → (f : ℕ) × IsDecisive events e thread f × IsBeforeFence events cell thread f a)
+    × ((f : ℕ) → IsDecisive events e thread f → IsBeforeFence events cell thread f a
+        → Fenced (events ++ e ∷ []) a (suc (length events)) ⊎ ProgramOrder (events ++ e ∷ []) a (suc (length events)))
+
+-- the last seq_cst store before a further event is the last of the events, where that event is seq_cst
+abbrev pub LastStoreDecides : Type 0
+LastStoreDecides = (events : List Event) (e : Event) (cell a : ℕ)
+    → IsLastSeqCst (events ++ e ∷ []) cell (suc (length events)) a ↔ ((is_seq_cst e.kind ≡ true) × IsLast (IsSeqCstStore events cell) a)

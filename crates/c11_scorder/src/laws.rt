@@ -1,0 +1,12 @@
+ghost use Rattle.c11_scorder.specs.Laws.{FencesDecide, LastStoreDecides};
+
+/// The fence rules hold exactly the stores before a next event that are before the last seq_cst fence of its thread or, where it is
+/// seq_cst, before the last one of the store's thread; beside these only stores that are earlier in the event's own thread.
+pub fn fences_decide()
+    ensures { FencesDecide }
+{}
+
+/// The last seq_cst store of a cell is the last one before a next event, where that is seq_cst.
+pub fn last_store_decides()
+    ensures { LastStoreDecides }
+{}
