@@ -1,6 +1,6 @@
 -- A further event keeps the tables those of the events.
-use Rattle.std.proofs.Common.{◌≡◌, ◌↔◌, ℕ, zero, suc, ◌<◌, ◌≤◌, ◌+◌, ◌&&◌, Bool, List, [], ◌∷◌, ◌++◌, Option, Some, None, slice_get, length, if◌then◌else◌, refl, sym, ap, ◌∙◌, subst, arith, ◌⊎◌, inl, inr}
-use Rattle.std.proofs.lemmas.List.{length-append}
+use Rattle.std.proofs.Common.{◌≡◌, ◌↔◌, ℕ, zero, suc, ◌<◌, ◌≤◌, ◌+◌, ◌&&◌, Bool, List, [], ◌∷◌, ◌++◌, Option, Some, None, slice_get, length, replicate, if◌then◌else◌, refl, sym, ap, ◌∙◌, subst, arith, ◌⊎◌, inl, inr}
+use Rattle.std.proofs.lemmas.List.{length-append, length-set}
 use mathlib.Core.Logic.{◌≢◌}
 use Rattle.c11_events.specs.declared.event.Event.{Event}
 use Rattle.c11_events.specs.Events.{At, event_at, stored_cell}
@@ -119,3 +119,20 @@ module _ (e f : Event) (alike : AreAlike e f) where
 
   pub same_thread : by_thread e ≡ some_if (is_seq_cst_fence f.kind) f.thread
   same_thread i = some_if (fences i) (alike.thread i)
+
+pub none_last : (by : Event → Option ℕ) (lasts : List (Option ℕ)) (count : ℕ) → lasts ≡ replicate count None → AreLast by [] lasts
+none_last by lasts count all place last at = subst (λ (l : Option ℕ). Answers (λ x. At [] x (λ e. by e ≡ Some place)) l)
+    (sym (each count place last (subst (λ (l : List (Option ℕ)). slice_get l place ≡ Some last) all at))) no_event
+  where
+    each : (count place : ℕ) (last : Option ℕ) → slice_get (replicate count None) place ≡ Some last → last ≡ None
+    each zero place last at = cc
+    each (suc count) zero last at = let same : None ≡ last = cc in sym same
+    each (suc count) (suc place) last at = each count place last at
+
+    no_event : (x : ℕ) → At [] x (λ e. by e ≡ Some place) → ⊥
+    no_event zero at = let clash = at.is in cc
+    no_event (suc x) at = let clash = at.is in cc
+
+pub length_set_at : (o : Option ℕ) (number : ℕ) (lasts : List (Option ℕ)) → length (set_at o number lasts) ≡ length lasts
+length_set_at None number lasts = refl
+length_set_at (Some p) number lasts = length-set lasts p (Some number)

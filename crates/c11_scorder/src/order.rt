@@ -1,4 +1,4 @@
-ghost use Rattle.std.specs.Prelude.{◌≡◌, ◌+◌, ◌<◌, ℕ, Some, List, [], ◌∷◌, ◌++◌, IfOk, length};
+ghost use Rattle.std.specs.Prelude.{◌≡◌, ◌+◌, ◌<◌, ℕ, Some, None, List, [], ◌∷◌, ◌++◌, IfOk, length, replicate};
 ghost use Rattle.c11_events.specs.declared.event.Event.{Event};
 ghost use Rattle.c11_events.specs.Events.{stored_cell};
 ghost use Rattle.c11_scorder.specs.SeqCst.{Answers, IsSeqCstStore, IsSeqCstFence, IsSeqCstFenceOf, IsBeforeFence};
@@ -63,8 +63,8 @@ impl ScOrder {
             stores: Latest::open(alloc, events)?,
             seq_cst_stores: Latest::open(alloc, events)?,
             fences: Latest::open(alloc, events)?,
-            last_stores: Vec::from_elem(alloc, None, cells as usize)?,
-            last_fences: Vec::from_elem(alloc, None, threads as usize)?,
+            last_stores: none_yet(alloc, cells)?,
+            last_fences: none_yet(alloc, threads)?,
         })
     }
 
@@ -122,6 +122,13 @@ impl ScOrder {
         let own = self.fences.last_up_to(FENCES, thread, fence);
         later(seq_cst, last_store_up_to(&self.stores, cell, thread, own))
     }
+}
+
+// So many places, with no last event yet.
+fn none_yet(alloc: Global, count: u32) -> Result<Vec<Option<u32>>, NoMemory>
+    ensures { IfOk result (λ lasts. lasts.items ≡ replicate count None) }
+{
+    Ok(Vec::from_elem(alloc, None, count as usize)?)
 }
 
 // The value, where the condition holds.
