@@ -1,19 +1,19 @@
 -- The decisive fences hold what the fence rules hold.
 use Rattle.std.proofs.Common.{◌≡◌, ◌↔◌, ℕ, zero, suc, ◌<◌, ◌≤◌, true, List, [], ◌∷◌, ◌++◌, Some, length, refl, sym, ap, ◌∙◌, subst, arith, ◌⊎◌, inl, inr}
 use Rattle.std.proofs.lemmas.List.{length-append}
-use native.Mathlib.Decide.{ℕ_discrete}
+use native.Mathlib.Decide.{map_dec, ℕ_discrete, dec_lt}
 use mathlib.Core.Logic.{dite}
 use Rattle.c11_events.specs.declared.event.Event.{Event}
 use Rattle.c11_events.specs.Events.{At, stored_cell, is_fence, is_seq_cst}
 use Rattle.c11_events.specs.HappensBefore.{ProgramOrder, IsSeqCst, SeqCstBefore}
 use Rattle.c11_events.specs.Lawful.{IsFence, Fenced, before, after, between, IsFencedBefore, IsFencedAfter, IsFencedBetween, IsLastSeqCst}
 use Rattle.c11_events.proofs.Basics.{at_same}
-use Rattle.c11_events.proofs.Decide.{dec_and, dec_true}
-use Rattle.c11_events.proofs.DecideEvents.{at_below, dec_at}
+use Rattle.c11_events.proofs.Decide.{dec_and, dec_or, dec_some, dec_true}
+use Rattle.c11_events.proofs.DecideEvents.{at_below, dec_at, dec_store, dec_program, dec_seq_cst}
 use Rattle.c11_events.proofs.Longer.{new_is}
 use Rattle.c11_events.proofs.Prefix.{same_more, same_less}
 use Rattle.c11_scorder.specs.SeqCst.{IsLast, IsOf, IsStoreOf, IsSeqCstStore, IsSeqCstFence, IsSeqCstFenceOf, IsBeforeFence, seq_cst, fenced}
-use Rattle.c11_scorder.specs.Laws.{IsDecisive, own, other, FencesDecide, LastStoreDecides}
+use Rattle.c11_scorder.specs.Laws.{IsDecisive, own, other, FencesDecide, AnswersDecide, LastStoreDecides}
 use Rattle.c11_scorder.proofs.Basic.{of_next, in_order, last_of}
 
 module _ (events : List Event) (e : Event) where
@@ -158,6 +158,51 @@ module _ (events : List Event) (e : Event) where
       last = λ b s p. l.1.last b (older b (λ x. stored_cell x.kind ≡ Some cell) p.earlier s, older b (λ x. is_seq_cst x.kind ≡ true) p.earlier p.first);
     },
   )
+
+module _ (events : List Event) (cell thread fence : ℕ) where
+  abbrev Parts : ℕ → Type 0
+  Parts a = (IsStoreOf events cell thread a × SeqCstBefore events a fence)
+      ⊎ (IsStoreOf events cell thread a × ((g : ℕ) × (ProgramOrder events a g × (IsSeqCstFence events g × ((g ≡ fence) ⊎ SeqCstBefore events g fence)))))
+
+  whole : (a : ℕ) → Parts a → IsBeforeFence events cell thread fence a
+  whole a (inl p) = seq_cst p.0 p.1
+  whole a (inr p) = fenced p.0 p.1.1.0 p.1.1.1.0 p.1.1.1.1
+
+  parts : (a : ℕ) → IsBeforeFence events cell thread fence a → Parts a
+  parts a (seq_cst s b) = inl (s, b)
+  parts a (fenced {g = g} s p is r) = inr (s, (g, (p, (is, r))))
+
+  before_store : (a : ℕ) → IsBeforeFence events cell thread fence a → IsStoreOf events cell thread a
+  before_store a (seq_cst s b) = s
+  before_store a (fenced s p is r) = s
+
+  before_below : (a : ℕ) → IsBeforeFence events cell thread fence a → a ≤ length events
+  before_below a b = let s = before_store a b in let less = at_below events a (λ x. x.thread ≡ thread) s.1 in omega arith
+
+  dec_order : (a b : ℕ) → Dec (SeqCstBefore events a b)
+  dec_order a b = map_dec (λ (p : IsSeqCst events a × (IsSeqCst events b × (a < b))). record { first = p.0; second = p.1.0; earlier = p.1.1 }) (λ s. (s.first, (s.second, s.earlier)))
+      (dec_and (dec_seq_cst events a) (dec_and (dec_seq_cst events b) (dec_lt a b)))
+
+  dec_is_fence : (g : ℕ) → Dec (IsSeqCstFence events g)
+  dec_is_fence g = dec_and (dec_at events g (λ f. is_fence f.kind ≡ true) (λ f. dec_true (is_fence f.kind))) (dec_seq_cst events g)
+
+  dec_before : (a : ℕ) → Dec (IsBeforeFence events cell thread fence a)
+  dec_before a =
+      let store = dec_and (dec_store events cell a) (dec_at events a (λ f. f.thread ≡ thread) (λ f. ℕ_discrete f.thread thread)) in
+      map_dec (whole a) (parts a) (dec_or (dec_and store (dec_order a fence)) (dec_and store
+      (dec_some (suc (length events)) (λ g. ProgramOrder events a g × (IsSeqCstFence events g × ((g ≡ fence) ⊎ SeqCstBefore events g fence)))
+      (λ g p. at_below events g (λ f. is_fence f.kind ≡ true) p.1.0.0)
+      (λ g. dec_and (dec_program events a g) (dec_and (dec_is_fence g) (dec_or (ℕ_discrete g fence) (dec_order g fence)))))))
+
+pub answers_decide : AnswersDecide
+unfolding Held
+answers_decide events e cell thread = (
+  λ a s f.
+  let h = held events e cell thread a s f in
+  let last = last_of (IsBeforeFence events cell thread h.0) (dec_before events cell thread h.0) (length events) (before_below events cell thread h.0) a h.2 in
+  (last.0, (h.0, h.1, last.1), last.1.last a h.2),
+  λ x answer. let s = before_store events cell thread answer.0 x answer.2.is in (s, decides events e cell thread x s answer.0 answer.1 answer.2.is),
+)
 
 pub fences_decide : FencesDecide
 unfolding Held

@@ -1,5 +1,5 @@
 -- This is all of the order of the seq_cst events that the rules need.
-use Rattle.std.specs.Prelude.{ℕ, suc, ◌≡◌, ◌↔◌, true, List, [], ◌∷◌, ◌++◌, length, ◌⊎◌}
+use Rattle.std.specs.Prelude.{ℕ, suc, ◌≡◌, ◌≤◌, ◌↔◌, true, List, [], ◌∷◌, ◌++◌, length, ◌⊎◌}
 use Rattle.c11_events.specs.declared.event.Event.{Event}
 use Rattle.c11_events.specs.Events.{is_seq_cst}
 use Rattle.c11_events.specs.HappensBefore.{ProgramOrder}
@@ -19,6 +19,18 @@ FencesDecide = (events : List Event) (e : Event) (cell thread a : ℕ) → IsSto
     → (Fenced (events ++ e ∷ []) a (suc (length events)) → (f : ℕ) × IsDecisive events e thread f × IsBeforeFence events cell thread f a)
     × ((f : ℕ) → IsDecisive events e thread f → IsBeforeFence events cell thread f a
         → Fenced (events ++ e ∷ []) a (suc (length events)) ⊎ ProgramOrder (events ++ e ∷ []) a (suc (length events)))
+
+-- x is the last store of the cell by the thread that is before a decisive fence
+abbrev pub IsAnswer : List Event → Event → ℕ → ℕ → ℕ → Type 0
+IsAnswer events e cell thread x = (f : ℕ) × IsDecisive events e thread f × IsLast (IsBeforeFence events cell thread f) x
+
+-- so each store that fences hold before a further event is such a last store or an earlier one of its cell and thread, and each such
+-- last store is held before the event by fences, or stands before it in their thread
+abbrev pub AnswersDecide : Type 0
+AnswersDecide = (events : List Event) (e : Event) (cell thread : ℕ)
+    → ((a : ℕ) → IsStoreOf events cell thread a → Fenced (events ++ e ∷ []) a (suc (length events)) → (x : ℕ) × IsAnswer events e cell thread x × (a ≤ x))
+    × ((x : ℕ) → IsAnswer events e cell thread x → IsStoreOf events cell thread x
+        × (Fenced (events ++ e ∷ []) x (suc (length events)) ⊎ ProgramOrder (events ++ e ∷ []) x (suc (length events))))
 
 -- the last seq_cst store before a further event is the last of the events, where that event is seq_cst
 abbrev pub LastStoreDecides : Type 0

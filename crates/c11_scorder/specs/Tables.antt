@@ -18,6 +18,12 @@ pub record Tables : Type 0 where
   pub last_stores : List (Option ℕ)
   pub last_fences : List (Option ℕ)
 
+abbrev pub cells_of : Tables → ℕ
+cells_of tables = length tables.last_stores
+
+abbrev pub threads_of : Tables → ℕ
+threads_of tables = length tables.last_fences
+
 -- what an event is to the tables
 
 abbrev pub is_seq_cst_fence : EventKind → Bool
@@ -70,8 +76,8 @@ pub record AreAlike (e f : Event) : Type 0 where
 -- the counts of cells, threads and events are the same
 pub record AreSame (old new : Tables) : Type 0 where
   pub room : new.room ≡ old.room
-  pub cells : length new.last_stores ≡ length old.last_stores
-  pub threads : length new.last_fences ≡ length old.last_fences
+  pub cells : cells_of new ≡ cells_of old
+  pub threads : threads_of new ≡ threads_of old
 
 -- there is room for the events to come, whose numbers are larger
 pub record HasRoom (room noted : ℕ) (notes : Notes) : Type 0 where

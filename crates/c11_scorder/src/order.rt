@@ -1,8 +1,8 @@
-ghost use Rattle.std.specs.Prelude.{◌≡◌, ◌+◌, ◌<◌, ℕ, Some, None, List, [], ◌∷◌, ◌++◌, IfOk, length, replicate};
+ghost use Rattle.std.specs.Prelude.{◌≡◌, ◌+◌, ◌<◌, ℕ, Some, None, List, [], ◌∷◌, ◌++◌, IfOk, replicate};
 ghost use Rattle.c11_events.specs.declared.event.Event.{Event};
 ghost use Rattle.c11_events.specs.Events.{stored_cell};
 ghost use Rattle.c11_scorder.specs.SeqCst.{Answers, IsSeqCstStore, IsSeqCstFence, IsSeqCstFenceOf, IsBeforeFence};
-ghost use Rattle.c11_scorder.specs.Tables.{StandsFor, AreAlike, AreSame, some_if, IsLastStoreUpTo};
+ghost use Rattle.c11_scorder.specs.Tables.{StandsFor, AreAlike, AreSame, cells_of, threads_of, some_if, IsLastStoreUpTo};
 
 use crate::kinds::{is_seq_cst_fence, seq_cst_cell, stored_cell};
 use crate::tables::{later, note_at, set_at};
@@ -51,8 +51,8 @@ impl Model for ScOrder {
 impl ScOrder {
     /// No event yet, with room for so many, of so many atomic cells and threads, each numbered from 0. All memory is taken here.
     pub fn open(alloc: Global, cells: u32, threads: u32, events: u32) -> Result<ScOrder, NoMemory>
-        ensures cells { IfOk result (λ order. length order.last_stores ≡ cells) }
-        ensures threads { IfOk result (λ order. length order.last_fences ≡ threads) }
+        ensures cells { IfOk result (λ order. cells_of order ≡ cells) }
+        ensures threads { IfOk result (λ order. threads_of order ≡ threads) }
         ensures room { IfOk result (λ order. order.room ≡ events) }
         ensures none { IfOk result (λ order. order.noted ≡ 0) }
         ensures stands { IfOk result (λ order. StandsFor order []) }
@@ -74,8 +74,8 @@ impl ScOrder {
     pub fn note(&mut self, event: &Event)
         requires number { event.now.number ≡ self.old.noted + 1 }
         requires room { self.old.noted < self.old.room }
-        requires thread { event.now.thread < length self.old.last_fences }
-        requires cell { (cell : ℕ) → stored_cell event.now.kind ≡ Some cell → cell < length self.old.last_stores }
+        requires thread { event.now.thread < threads_of self.old }
+        requires cell { (cell : ℕ) → stored_cell event.now.kind ≡ Some cell → cell < cells_of self.old }
         ensures noted { self.new.noted ≡ self.old.noted + 1 }
         ensures same { AreSame self.old self.new }
         ensures stands { (events : List Event) (e : Event) → StandsFor self.old events → AreAlike e event.now → StandsFor self.new (events ++ e ∷ []) }
@@ -99,7 +99,7 @@ impl ScOrder {
 
     /// The last seq_cst store of the cell (ISO/IEC 9899:2011, 7.17.3).
     pub fn last_store(&self, cell: u32) -> Option<u32>
-        requires { cell < length self.now.last_stores }
+        requires { cell < cells_of self.now }
         ensures { (events : List Event) → StandsFor self.now events → Answers (IsSeqCstStore events cell) result }
     {
         self.last_stores[cell as usize]
@@ -107,7 +107,7 @@ impl ScOrder {
 
     /// The last seq_cst fence of the thread.
     pub fn last_fence(&self, thread: u32) -> Option<u32>
-        requires { thread < length self.now.last_fences }
+        requires { thread < threads_of self.now }
         ensures { (events : List Event) → StandsFor self.now events → Answers (IsSeqCstFenceOf events thread) result }
     {
         self.last_fences[thread as usize]
