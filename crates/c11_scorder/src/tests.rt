@@ -66,10 +66,9 @@ fn noted(alloc: Global, acts: &[(u32, Act)]) -> Result<ScOrder, Fail>
     ensures threads { IfOk result (λ order. threads_of order ≡ 3) }
 {
     let mut order = ScOrder::open(alloc, 2, 3, 32)?;
-    let mut number = 0u32;
-    for (thread, act) in acts.iter().take(32) {
-        number += 1;
-        order.note(&event(number, *thread % 3, *act));
+    for place in 0..acts.len().min(32) {
+        let (thread, act) = acts[place];
+        order.note(&event(place as u32 + 1, thread % 3, act));
     }
     Ok(order)
 }
