@@ -1,15 +1,15 @@
 -- What the tables answer, said of the events.
-use Rattle.std.proofs.Common.{◌≡◌, ◌↔◌, ℕ, zero, suc, ◌<◌, ◌≤◌, ◌&&◌, Bool, true, false, List, [], ◌∷◌, Option, Some, None, MatchOption, slice_get, nat_lt, length, if◌then◌else◌, refl, sym, ap, ◌∙◌, subst, arith, ◌⊎◌, inl, inr}
+use Rattle.std.proofs.Common.{◌≡◌, ℕ, ◌<◌, ◌≤◌, ◌&&◌, Bool, true, false, List, Option, Some, None, MatchOption, slice_get, nat_lt, if◌then◌else◌, refl, sym, ap, ◌∙◌, subst, arith, ◌⊎◌, inl, inr}
 use Rattle.std.proofs.lemmas.Bool.{ltb-true, lt-ltb}
 use native.Mathlib.Decide.{ℕ_discrete, dec_lt}
-use mathlib.Core.Logic.{dite, ◌≢◌}
+use mathlib.Core.Logic.{dite}
 use Rattle.c11_events.specs.declared.event.Event.{Event}
 use Rattle.c11_events.specs.Events.{At, stored_cell, is_fence, is_seq_cst}
-use Rattle.c11_events.specs.HappensBefore.{ProgramOrder, IsSeqCst, SeqCstBefore}
+use Rattle.c11_events.specs.HappensBefore.{ProgramOrder, SeqCstBefore}
 use Rattle.c11_latest.specs.declared.latest.Note.{Note}
-use Rattle.c11_latest.specs.Notes.{Notes, note, IsNoted, HasNoneUpTo, IsLastUpTo}
-use Rattle.c11_scorder.specs.SeqCst.{Answers, IsLast, IsOf, IsStoreOf, IsSeqCstStore, IsSeqCstFence, IsSeqCstFenceOf, IsBeforeFence, seq_cst, fenced}
-use Rattle.c11_scorder.specs.Tables.{Tables, StandsFor, AreNoted, IsLastStoreUpTo, later, some_if, is_seq_cst_fence, seq_cst_cell}
+use Rattle.c11_latest.specs.Notes.{IsNoted, HasNoneUpTo, IsLastUpTo}
+use Rattle.c11_scorder.specs.SeqCst.{Answers, IsLast, IsStoreOf, IsSeqCstStore, IsSeqCstFence, IsSeqCstFenceOf, IsBeforeFence, seq_cst, fenced}
+use Rattle.c11_scorder.specs.Tables.{Tables, StandsFor, IsLastStoreUpTo, later, some_if, is_seq_cst_fence, seq_cst_cell}
 use Rattle.c11_scorder.proofs.Basic.{both, part, apart, of_next, in_order, if_some, and_true}
 
 -- what is said of the same numbers has the same answer
@@ -47,18 +47,22 @@ later_answers P Q R p q r (Some a) (Some b) is is' = larger P Q R p q r a b is i
 module _ (tables : Tables) (events : List Event) (stands : StandsFor tables events) where
   pub last_store : (cell : ℕ) (last : Option ℕ) → slice_get tables.last_stores cell ≡ Some last → Answers (IsSeqCstStore events cell) last
   last_store cell last at = answers_as (λ x. At events x (λ e. seq_cst_cell e.kind ≡ Some cell)) (IsSeqCstStore events cell)
-      (λ x t. (part events x (λ e. seq_cst_cell e.kind ≡ Some cell) (λ e. stored_cell e.kind ≡ Some cell) (λ e h. (if_some (is_seq_cst e.kind) (stored_cell e.kind) cell h).1) t,
-        part events x (λ e. seq_cst_cell e.kind ≡ Some cell) (λ e. is_seq_cst e.kind ≡ true) (λ e h. (if_some (is_seq_cst e.kind) (stored_cell e.kind) cell h).0) t))
+      (λ x t. (
+        part events x (λ e. seq_cst_cell e.kind ≡ Some cell) (λ e. stored_cell e.kind ≡ Some cell) (λ e h. (if_some (is_seq_cst e.kind) (stored_cell e.kind) cell h).1) t,
+        part events x (λ e. seq_cst_cell e.kind ≡ Some cell) (λ e. is_seq_cst e.kind ≡ true) (λ e h. (if_some (is_seq_cst e.kind) (stored_cell e.kind) cell h).0) t,
+      ))
       (λ x s. part events x (λ e. (stored_cell e.kind ≡ Some cell) × (is_seq_cst e.kind ≡ true)) (λ e. seq_cst_cell e.kind ≡ Some cell)
-        (λ e h. ap (λ (b : Bool). if b then stored_cell e.kind else None) h.1 ∙ h.0)
-        (both events x (λ e. stored_cell e.kind ≡ Some cell) (λ e. is_seq_cst e.kind ≡ true) s.0 s.1))
+      (λ e h. ap (λ (b : Bool). if b then stored_cell e.kind else None) h.1 ∙ h.0)
+      (both events x (λ e. stored_cell e.kind ≡ Some cell) (λ e. is_seq_cst e.kind ≡ true) s.0 s.1))
       last (stands.last_stores cell last at)
 
   -- a seq_cst fence, by one fact of its event or by three
   fence_of : (thread value x : ℕ) (P : Event → Type 0) → ((e : Event) → P e → (is_seq_cst_fence e.kind ≡ true) × (e.thread ≡ thread)) → At events x P → IsSeqCstFenceOf events thread x
   fence_of thread value x P f t = (
-    (part events x P (λ e. is_fence e.kind ≡ true) (λ e h. (and_true (is_fence e.kind) (is_seq_cst e.kind) (f e h).0).0) t,
-      part events x P (λ e. is_seq_cst e.kind ≡ true) (λ e h. (and_true (is_fence e.kind) (is_seq_cst e.kind) (f e h).0).1) t),
+    (
+      part events x P (λ e. is_fence e.kind ≡ true) (λ e h. (and_true (is_fence e.kind) (is_seq_cst e.kind) (f e h).0).0) t,
+      part events x P (λ e. is_seq_cst e.kind ≡ true) (λ e h. (and_true (is_fence e.kind) (is_seq_cst e.kind) (f e h).0).1) t,
+    ),
     part events x P (λ e. e.thread ≡ thread) (λ e h. (f e h).1) t,
   )
 
@@ -94,25 +98,31 @@ module _ (tables : Tables) (events : List Event) (stands : StandsFor tables even
     noted_store a s = (stands.stores cell thread a).1 (both events a (λ e. stored_cell e.kind ≡ Some cell) (λ e. e.thread ≡ thread) s.0 s.1)
 
     store_noted : (a : ℕ) → IsNoted tables.stores.notes cell thread a → IsStoreOf events cell thread a
-    store_noted a noted = let t = (stands.stores cell thread a).0 noted in
-        (part events a (λ e. (stored_cell e.kind ≡ Some cell) × (e.thread ≡ thread)) (λ e. stored_cell e.kind ≡ Some cell) (λ e h. h.0) t,
-          part events a (λ e. (stored_cell e.kind ≡ Some cell) × (e.thread ≡ thread)) (λ e. e.thread ≡ thread) (λ e h. h.1) t)
+    store_noted a noted = let t = (stands.stores cell thread a).0 noted in (
+      part events a (λ e. (stored_cell e.kind ≡ Some cell) × (e.thread ≡ thread)) (λ e. stored_cell e.kind ≡ Some cell) (λ e h. h.0) t,
+      part events a (λ e. (stored_cell e.kind ≡ Some cell) × (e.thread ≡ thread)) (λ e. e.thread ≡ thread) (λ e h. h.1) t,
+    )
 
     by_order : (o : Option ℕ) → UpTo tables.seq_cst_stores.notes cell thread fence o → Answers ByOrder o
     by_order o is = answers_up_to tables.seq_cst_stores.notes cell thread fence ByOrder
         (λ x noted le.
         let t = (stands.seq_cst_stores cell thread x).0 noted in
         let store = part events x (λ e. (seq_cst_cell e.kind ≡ Some cell) × (e.thread ≡ thread)) (λ e. stored_cell e.kind ≡ Some cell) (λ e h. (if_some (is_seq_cst e.kind) (stored_cell e.kind) cell h.0).1) t in
-        let differ = apart events cell x fence store is_fence'.0 in
-        ((store, part events x (λ e. (seq_cst_cell e.kind ≡ Some cell) × (e.thread ≡ thread)) (λ e. e.thread ≡ thread) (λ e h. h.1) t), record {
-          first = part events x (λ e. (seq_cst_cell e.kind ≡ Some cell) × (e.thread ≡ thread)) (λ e. is_seq_cst e.kind ≡ true) (λ e h. (if_some (is_seq_cst e.kind) (stored_cell e.kind) cell h.0).0) t;
-          second = is_fence'.1;
-          earlier = omega arith;
-        }))
-        (λ x q. ((stands.seq_cst_stores cell thread x).1 (part events x (λ e. ((stored_cell e.kind ≡ Some cell) × (e.thread ≡ thread)) × (is_seq_cst e.kind ≡ true))
-          (λ e. (seq_cst_cell e.kind ≡ Some cell) × (e.thread ≡ thread)) (λ e h. (ap (λ (b : Bool). if b then stored_cell e.kind else None) h.1 ∙ h.0.0, h.0.1))
-          (both events x (λ e. (stored_cell e.kind ≡ Some cell) × (e.thread ≡ thread)) (λ e. is_seq_cst e.kind ≡ true)
-          (both events x (λ e. stored_cell e.kind ≡ Some cell) (λ e. e.thread ≡ thread) q.0.0 q.0.1) q.1.first)), let less = q.1.earlier in omega arith))
+        let differ = apart events cell x fence store is_fence'.0 in (
+          (store, part events x (λ e. (seq_cst_cell e.kind ≡ Some cell) × (e.thread ≡ thread)) (λ e. e.thread ≡ thread) (λ e h. h.1) t),
+          record {
+            first = part events x (λ e. (seq_cst_cell e.kind ≡ Some cell) × (e.thread ≡ thread)) (λ e. is_seq_cst e.kind ≡ true) (λ e h. (if_some (is_seq_cst e.kind) (stored_cell e.kind) cell h.0).0) t;
+            second = is_fence'.1;
+            earlier = omega arith;
+          },
+        ))
+        (λ x q. (
+          (stands.seq_cst_stores cell thread x).1 (part events x (λ e. ((stored_cell e.kind ≡ Some cell) × (e.thread ≡ thread)) × (is_seq_cst e.kind ≡ true))
+              (λ e. (seq_cst_cell e.kind ≡ Some cell) × (e.thread ≡ thread)) (λ e h. (ap (λ (b : Bool). if b then stored_cell e.kind else None) h.1 ∙ h.0.0, h.0.1))
+              (both events x (λ e. (stored_cell e.kind ≡ Some cell) × (e.thread ≡ thread)) (λ e. is_seq_cst e.kind ≡ true)
+              (both events x (λ e. stored_cell e.kind ≡ Some cell) (λ e. e.thread ≡ thread) q.0.0 q.0.1) q.1.first)),
+          let less = q.1.earlier in omega arith,
+        ))
         o is
 
     -- the fence of the thread in whose favour a store is held is noted
@@ -127,9 +137,14 @@ module _ (tables : Tables) (events : List Event) (stands : StandsFor tables even
         answers_up_to tables.stores.notes cell thread h ByOwnFence
         (λ x noted le.
         let s = store_noted x noted in
-        let differ = apart events cell x h s.0 own.0.0 in
-        (h, s, in_order events thread x h s.1 own.1 (omega arith), own.0, dite (ℕ_discrete h fence) (λ (same : h ≡ fence). inl same)
-          (λ (other : h ≡ fence → ⊥). inr (record { first = own.0.1; second = is_fence'.1; earlier = omega arith }))))
+        let differ = apart events cell x h s.0 own.0.0 in (
+          h,
+          s,
+          in_order events thread x h s.1 own.1 (omega arith),
+          own.0,
+          dite (ℕ_discrete h fence) (λ (same : h ≡ fence). inl same)
+              (λ (other : h ≡ fence → ⊥). inr (record { first = own.0.1; second = is_fence'.1; earlier = omega arith })),
+        ))
         (λ x q. let r = own_noted x q in let le = is.last q.0 r.0 r.1 in let less = q.2.earlier in (noted_store x q.1, omega arith))
         o last
 

@@ -1,5 +1,5 @@
 -- What stands at a number, and the last for which something holds.
-use Rattle.std.proofs.Common.{◌≡◌, ℕ, zero, suc, ◌<◌, ◌≤◌, ◌&&◌, Bool, true, false, List, [], ◌∷◌, ◌++◌, Option, Some, None, slice_get, slice_set, length, if◌then◌else◌, refl, sym, ap, ◌∙◌, subst, arith, ◌⊎◌, inl, inr}
+use Rattle.std.proofs.Common.{◌≡◌, ℕ, zero, suc, ◌<◌, ◌≤◌, ◌&&◌, Bool, true, false, List, [], ◌∷◌, Option, Some, None, slice_get, slice_set, if◌then◌else◌, refl, sym, ap, ◌∙◌, subst, arith, ◌⊎◌, inl, inr}
 use mathlib.Core.Logic.{dite, ◌≢◌}
 use Rattle.c11_events.specs.declared.event.EventKind.{EventKind}
 use Rattle.c11_events.specs.declared.event.EventKind.TheVariants.{Fence}

@@ -1,6 +1,5 @@
 -- The decisive fences hold what the fence rules hold.
-use Rattle.std.proofs.Common.{◌≡◌, ◌↔◌, ℕ, zero, suc, ◌<◌, ◌≤◌, true, List, [], ◌∷◌, ◌++◌, Some, length, refl, sym, ap, ◌∙◌, subst, arith, ◌⊎◌, inl, inr}
-use Rattle.std.proofs.lemmas.List.{length-append}
+use Rattle.std.proofs.Common.{◌≡◌, ◌↔◌, ℕ, suc, ◌<◌, ◌≤◌, true, List, [], ◌∷◌, ◌++◌, Some, length, refl, sym, ap, ◌∙◌, subst, arith, ◌⊎◌, inl, inr}
 use native.Mathlib.Decide.{map_dec, ℕ_discrete, dec_lt}
 use mathlib.Core.Logic.{dite}
 use Rattle.c11_events.specs.declared.event.Event.{Event}
@@ -123,10 +122,10 @@ module _ (events : List Event) (e : Event) where
     by_own f last (seq_cst s' b) = inl (before (record { f = f; fence = newer_fence f last.is.0; first = newer_before a f b; second = before_new_own f last.is.1 }))
     by_own f last (fenced {g = g} s' p fence r) = elim r [
       | inl same ↦
-        let o = of_next events thread a g s.1 p in
-        let last_o = subst (λ (k : ℕ). IsOf events e.thread k) (sym same) last.is.1 in
-        let threads : thread ≡ e.thread = sym o.holds ∙ (ap (λ (x : Event). x.thread) (at_same events g o.event last_o.event o.is last_o.is) ∙ last_o.holds) in
-        inr (before_new_own a (subst (λ (t : ℕ). IsOf events t a) threads s.1))
+          let o = of_next events thread a g s.1 p in
+          let last_o = subst (λ (k : ℕ). IsOf events e.thread k) (sym same) last.is.1 in
+          let threads : thread ≡ e.thread = sym o.holds ∙ (ap (λ (x : Event). x.thread) (at_same events g o.event last_o.event o.is last_o.is) ∙ last_o.holds) in
+          inr (before_new_own a (subst (λ (t : ℕ). IsOf events t a) threads s.1))
       | inr b ↦ inl (between (record {
         f = g;
         g = f;
@@ -148,10 +147,13 @@ module _ (events : List Event) (e : Event) where
 
   pub last_decides : (cell a : ℕ) → IsLastSeqCst longer cell n a ↔ ((is_seq_cst e.kind ≡ true) × IsLast (IsSeqCstStore events cell) a)
   last_decides cell a = (
-    λ l. (of_new (λ x. is_seq_cst x.kind ≡ true) l.before.second, record {
-      is = (older a (λ x. stored_cell x.kind ≡ Some cell) l.before.earlier l.store, older a (λ x. is_seq_cst x.kind ≡ true) l.before.earlier l.before.first);
-      last = λ y s. l.last y (newer y (λ x. stored_cell x.kind ≡ Some cell) s.0) (before_new y s.1 (of_new (λ x. is_seq_cst x.kind ≡ true) l.before.second));
-    }),
+    λ l. (
+      of_new (λ x. is_seq_cst x.kind ≡ true) l.before.second,
+      record {
+        is = (older a (λ x. stored_cell x.kind ≡ Some cell) l.before.earlier l.store, older a (λ x. is_seq_cst x.kind ≡ true) l.before.earlier l.before.first);
+        last = λ y s. l.last y (newer y (λ x. stored_cell x.kind ≡ Some cell) s.0) (before_new y s.1 (of_new (λ x. is_seq_cst x.kind ≡ true) l.before.second));
+      },
+    ),
     λ l. record {
       store = newer a (λ x. stored_cell x.kind ≡ Some cell) l.1.is.0;
       before = before_new a l.1.is.1 l.0;
@@ -198,9 +200,9 @@ pub answers_decide : AnswersDecide
 unfolding Held
 answers_decide events e cell thread = (
   λ a s f.
-  let h = held events e cell thread a s f in
-  let last = last_of (IsBeforeFence events cell thread h.0) (dec_before events cell thread h.0) (length events) (before_below events cell thread h.0) a h.2 in
-  (last.0, (h.0, h.1, last.1), last.1.last a h.2),
+      let h = held events e cell thread a s f in
+      let last = last_of (IsBeforeFence events cell thread h.0) (dec_before events cell thread h.0) (length events) (before_below events cell thread h.0) a h.2 in
+      (last.0, (h.0, h.1, last.1), last.1.last a h.2),
   λ x answer. let s = before_store events cell thread answer.0 x answer.2.is in (s, decides events e cell thread x s answer.0 answer.1 answer.2.is),
 )
 

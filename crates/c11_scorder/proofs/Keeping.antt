@@ -1,17 +1,16 @@
 -- A further event keeps the tables those of the events.
-use Rattle.std.proofs.Common.{◌≡◌, ◌↔◌, ℕ, zero, suc, ◌<◌, ◌≤◌, ◌+◌, ◌&&◌, Bool, List, [], ◌∷◌, ◌++◌, Option, Some, None, slice_get, length, replicate, if◌then◌else◌, refl, sym, ap, ◌∙◌, subst, arith, ◌⊎◌, inl, inr}
+use Rattle.std.proofs.Common.{◌≡◌, ℕ, zero, suc, ◌+◌, ◌&&◌, List, [], ◌∷◌, ◌++◌, Option, Some, None, slice_get, length, replicate, if◌then◌else◌, refl, sym, ap, ◌∙◌, subst, arith, inl, inr}
 use Rattle.std.proofs.lemmas.List.{length-append, length-set}
-use mathlib.Core.Logic.{◌≢◌}
 use Rattle.c11_events.specs.declared.event.Event.{Event}
-use Rattle.c11_events.specs.Events.{At, event_at, stored_cell}
+use Rattle.c11_events.specs.Events.{At}
 use Rattle.c11_events.proofs.DecideEvents.{at_below}
 use Rattle.c11_events.proofs.Longer.{new_is, old_or_new}
 use Rattle.c11_events.proofs.Prefix.{same_more, same_less}
 use Rattle.c11_latest.specs.declared.latest.Note.{Note}
-use Rattle.c11_latest.specs.Notes.{Notes, note, IsNoted}
+use Rattle.c11_latest.specs.Notes.{Notes, note}
 use Rattle.c11_latest.proofs.Places.{get_more, get_last, old_or_last}
-use Rattle.c11_scorder.specs.SeqCst.{Answers, IsLast}
-use Rattle.c11_scorder.specs.Tables.{Tables, AreNoted, AreLast, HasRoom, StandsFor, AreAlike, noted_at, set_at, some_if, by_store, by_seq_cst_store, by_fence, by_thread, is_seq_cst_fence, seq_cst_cell}
+use Rattle.c11_scorder.specs.SeqCst.{Answers}
+use Rattle.c11_scorder.specs.Tables.{AreNoted, AreLast, HasRoom, AreAlike, noted_at, set_at, some_if, by_seq_cst_store, by_fence, by_thread, is_seq_cst_fence, seq_cst_cell}
 use Rattle.c11_scorder.proofs.Basic.{set_cases}
 
 pub nothing_noted : (by : Event → Option ℕ) (notes : Notes) → notes.notes ≡ [] → AreNoted by [] notes
@@ -42,15 +41,15 @@ module _ (by : Event → Option ℕ) (events : List Event) (e : Event) where
     λ noted. elim (old_or_last notes.notes (note c e.thread (suc (length events))) noted.0 (note cell thread x) noted.1) [
       | inl old ↦ same_more events (e ∷ []) x (Is cell thread) ((kept cell thread x).0 (noted.0, old.1))
       | inr new ↦ subst (λ (k : ℕ). At (events ++ e ∷ []) k (Is cell thread)) (ap (λ (m : Note). m.number) new.1)
-        (record { event = e; is = new_is events e; holds = (is ∙ (λ i. Some (new.1 i).cell), ap (λ (m : Note). m.thread) new.1) })
+          (record { event = e; is = new_is events e; holds = (is ∙ (λ i. Some (new.1 i).cell), ap (λ (m : Note). m.thread) new.1) })
     ],
     λ at. elim (old_or_new events e x (Is cell thread) at) [
       | inl old ↦ let noted = (kept cell thread x).1 (same_less events (e ∷ []) x (Is cell thread) old at) in
-        (noted.0, get_more notes.notes (note c e.thread (suc (length events))) noted.0 (note cell thread x) noted.1)
+          (noted.0, get_more notes.notes (note c e.thread (suc (length events))) noted.0 (note cell thread x) noted.1)
       | inr new ↦
-        let cells : Some c ≡ Some cell = sym is ∙ new.1.0 in
-        let same : c ≡ cell = cc in
-        (length notes.notes, get_last notes.notes (note c e.thread (suc (length events))) ∙ (λ i. Some (note (same i) (new.1.1 i) (sym new.0 i))))
+          let cells : Some c ≡ Some cell = sym is ∙ new.1.0 in
+          let same : c ≡ cell = cc in
+          (length notes.notes, get_last notes.notes (note c e.thread (suc (length events))) ∙ (λ i. Some (note (same i) (new.1.1 i) (sym new.0 i))))
     ],
   )
 

@@ -18,7 +18,7 @@ abbrev pub FencesDecide : Type 0
 FencesDecide = (events : List Event) (e : Event) (cell thread a : ℕ) → IsStoreOf events cell thread a
     → (Fenced (events ++ e ∷ []) a (suc (length events)) → (f : ℕ) × IsDecisive events e thread f × IsBeforeFence events cell thread f a)
     × ((f : ℕ) → IsDecisive events e thread f → IsBeforeFence events cell thread f a
-        → Fenced (events ++ e ∷ []) a (suc (length events)) ⊎ ProgramOrder (events ++ e ∷ []) a (suc (length events)))
+    → Fenced (events ++ e ∷ []) a (suc (length events)) ⊎ ProgramOrder (events ++ e ∷ []) a (suc (length events)))
 
 -- x is the last store of the cell by the thread that is before a decisive fence
 abbrev pub IsAnswer : List Event → Event → ℕ → ℕ → ℕ → Type 0
@@ -30,7 +30,7 @@ abbrev pub AnswersDecide : Type 0
 AnswersDecide = (events : List Event) (e : Event) (cell thread : ℕ)
     → ((a : ℕ) → IsStoreOf events cell thread a → Fenced (events ++ e ∷ []) a (suc (length events)) → (x : ℕ) × IsAnswer events e cell thread x × (a ≤ x))
     × ((x : ℕ) → IsAnswer events e cell thread x → IsStoreOf events cell thread x
-        × (Fenced (events ++ e ∷ []) x (suc (length events)) ⊎ ProgramOrder (events ++ e ∷ []) x (suc (length events))))
+    × (Fenced (events ++ e ∷ []) x (suc (length events)) ⊎ ProgramOrder (events ++ e ∷ []) x (suc (length events))))
 
 -- the last seq_cst store before a further event is the last of the events, where that event is seq_cst
 abbrev pub LastStoreDecides : Type 0

@@ -1,5 +1,5 @@
 -- What the tables keep, and the events for which they stand.
-use Rattle.std.specs.Prelude.{ℕ, ◌≡◌, ◌<◌, ◌≤◌, ◌↔◌, ◌&&◌, Bool, true, false, List, [], ◌∷◌, ◌++◌, Option, Some, None, MatchOption, length, slice_get, slice_set, nat_lt, if◌then◌else◌}
+use Rattle.std.specs.Prelude.{ℕ, ◌≡◌, ◌≤◌, ◌↔◌, ◌&&◌, Bool, List, [], ◌∷◌, ◌++◌, Option, Some, None, MatchOption, length, slice_get, slice_set, nat_lt, if◌then◌else◌}
 use Rattle.c11_events.specs.declared.event.EventKind.{EventKind}
 use Rattle.c11_events.specs.declared.event.Event.{Event}
 use Rattle.c11_events.specs.Events.{At, stored_cell, is_fence, is_seq_cst}

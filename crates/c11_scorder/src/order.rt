@@ -36,13 +36,13 @@ impl Model for ScOrder {
     ghost Value = { Tables };
 
     ghost view = { λ s. record {
-        room = s.room;
-        noted = s.noted;
-        stores = s.stores;
-        seq_cst_stores = s.seq_cst_stores;
-        fences = s.fences;
-        last_stores = s.last_stores.items;
-        last_fences = s.last_fences.items;
+      room = s.room;
+      noted = s.noted;
+      stores = s.stores;
+      seq_cst_stores = s.seq_cst_stores;
+      fences = s.fences;
+      last_stores = s.last_stores.items;
+      last_fences = s.last_fences.items;
     } };
 
     ghost invariant = { λ s. AreSound s.room s.noted s.stores s.seq_cst_stores s.fences };
@@ -84,12 +84,7 @@ impl ScOrder {
         let thread = event.thread;
         let seq_cst = seq_cst_cell(&event.kind);
         let fence = is_seq_cst_fence(&event.kind);
-        note_at(
-            &mut self.stores,
-            stored_cell(&event.kind),
-            thread,
-            number,
-        );
+        note_at(&mut self.stores, stored_cell(&event.kind), thread, number);
         note_at(&mut self.seq_cst_stores, seq_cst, thread, number);
         note_at(&mut self.fences, some_if(fence, FENCES), thread, number);
         set_at(&mut self.last_stores, seq_cst, number);

@@ -272,7 +272,10 @@ fn compare(rt: &impl Abort, alloc: Global, acts: &[(u32, Act)]) -> Result<(), Fa
         assert_eq!(rt; order.last_store(cell), scan_store(acts, cell));
     }
     for thread in 0..3 {
-        assert_eq!(rt; order.last_fence(thread), scan_fence(acts, thread, 0, u32::MAX));
+        assert_eq!(rt;
+            order.last_fence(thread),
+            scan_fence(acts, thread, 0, u32::MAX)
+        );
     }
     let mut fence = 0u32;
     for (_, act) in acts.iter() {

@@ -1,4 +1,4 @@
-use Rattle.std.proofs.Common.{◌≡◌, ◌<◌, ap, subst, length, slice_get, arith, List, Option, Some, ℕ}
+use Rattle.std.proofs.Common.{◌≡◌, ap, subst, length, slice_get, arith, List, Option, Some, ℕ}
 use Rattle.c11_latest.proofs.Places.{get_of_index}
 use Rattle.c11_scorder.specs.Tables.{Tables}
 use Rattle.c11_scorder.proofs.Answering.{last_store}

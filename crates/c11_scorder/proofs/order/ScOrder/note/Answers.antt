@@ -1,10 +1,8 @@
-use Rattle.std.proofs.Common.{◌≡◌, ◌<◌, ◌≤◌, ◌+◌, ◌∙◌, ℕ, Bool, suc, List, [], ◌∷◌, ◌++◌, Option, length, ap, sym, subst, arith}
+use Rattle.std.proofs.Common.{◌≡◌, ◌+◌, ◌∙◌, ℕ, Bool, suc, List, [], ◌∷◌, Option, length, ap, sym, subst, arith}
 use Rattle.std.specs.Vec.{with_items}
-use Rattle.std.proofs.lemmas.List.{with_items_is, length-set, length-append}
+use Rattle.std.proofs.lemmas.List.{with_items_is, length-append}
 use Rattle.c11_events.specs.declared.event.Event.{Event}
-use Rattle.c11_events.specs.Events.{stored_cell}
-use Rattle.c11_latest.specs.Notes.{Notes}
-use Rattle.c11_scorder.specs.Tables.{Tables, StandsFor, AreAlike, noted_at, set_at, some_if, seq_cst_cell, is_seq_cst_fence, by_store, by_seq_cst_store, by_fence, by_thread}
+use Rattle.c11_scorder.specs.Tables.{Tables, StandsFor, AreAlike, set_at, some_if, by_store, by_seq_cst_store, by_fence, by_thread}
 use Rattle.c11_scorder.specs.contracts.order.ScOrder.{the_view}
 use Rattle.c11_scorder.proofs.Keeping.{noted_as, last_as, room_next, same_seq_cst_cell, same_fence, same_thread, length_set_at}
 use Rattle.c11_scorder.proofs.order.ScOrder.note.Goals as goal
