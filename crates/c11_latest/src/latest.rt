@@ -9,7 +9,7 @@ use std::alloc::Global;
 use std::collections::HashMap;
 use std::marker::Model;
 
-/// The number of an event of a thread, noted of a cell.
+/// The number of an event, noted of a cell and a thread. None of the three is bounded by a count.
 #[derive(Clone, Copy, Debug)]
 pub struct Note {
     pub cell: u32,
@@ -77,7 +77,7 @@ impl Latest {
         put_last(&mut self.last, cell, thread, place);
     }
 
-    /// The largest number noted of the cell and the thread that is at most `number`.
+    /// The largest number noted of the cell and the thread that is at most `number`, in time logarithmic in the notes of the two.
     pub fn last_up_to(&self, cell: u32, thread: u32, number: u32) -> Option<u32>
         ensures { MatchOption result (HasNoneUpTo self.now.notes cell thread number) (λ x. IsLastUpTo self.now.notes cell thread number x) }
     {

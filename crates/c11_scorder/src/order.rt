@@ -68,9 +68,9 @@ impl ScOrder {
         })
     }
 
-    /// Adds the next event. Takes no memory.
+    /// Adds the next event, whose number is one more than the last. Takes no memory.
     ///
-    /// Its number is one more than the last.
+    /// The tables then stand for the events with it, or with an event that differs from it in nothing that they keep.
     pub fn note(&mut self, event: &Event)
         requires number { event.now.number ≡ self.old.noted + 1 }
         requires room { self.old.noted < self.old.room }
