@@ -19,7 +19,7 @@ pub struct Word {
 pub enum Known {
     /// An integer constant.
     Literal(CValue),
-    /// A name that a `#define` gives a value.
+    /// A name. The checks look whether a `#define` gives it a value.
     Named(Word),
 }
 

@@ -1,4 +1,4 @@
--- How parts are read: functions that the private contracts of the parsers cite. They are in the grammar exactly (`Laws`).
+-- How parts are read, as functions of the tokens: what the contracts between the crates of the grammar cite. `Laws` says that they are the grammar.
 use Rattle.std.specs.Prelude.{ℕ, zero, suc, ◌+◌, Bool, true, false, List, [], ◌∷◌, ◌++◌, length, Option, Some, None}
 use Rattle.c11_num.specs.Ranges.{TypedNumber}
 use Rattle.c11_num.specs.declared.value.CType.{CType}

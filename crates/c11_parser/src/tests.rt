@@ -36,10 +36,10 @@ fn in_function(alloc: Global, statements: &str) -> Result<String, AllocError> {
     format!(in alloc; "void f(void) {{ {statements} }}")
 }
 
-// Each row has a production, and then the same with one token missing.
+// Each row has texts of a production, and then one that is none: in most a token is missing.
 #[test]
 fn items_are_read_and_broken_ones_are_not(rt: HostRuntime) -> Result<(), Fail> {
-    let rows: [(&str, &str); 25] = [
+    let rows: [(&str, &str); 26] = [
         ("#include <stdio.h>\n", "int"),
         ("#define A 1\n", "#define int 1\n"),
         ("int x;", "int ;"),
@@ -65,6 +65,7 @@ fn items_are_read_and_broken_ones_are_not(rt: HostRuntime) -> Result<(), Fail> {
             "atomic_int x = ATOMIC_VAR_INIT -1);",
         ),
         ("mtx_t m, n[2];", "mtx_t m = 1;"),
+        ("static mtx_t m;", "mtx_t m n[2];"),
         ("void f() {}", "void f( {}"),
         ("static int f(void) {}", "static int (void) {}"),
         ("int f(void *p) {}", "int f(void p) {}"),
@@ -267,7 +268,7 @@ fn nested(
 // A function's block has depth 1, its statements have depth 2, and 64 is the last depth.
 #[test]
 fn depth_64_is_read_and_65_is_not(rt: HostRuntime) -> Result<(), Fail> {
-    let rows: [(&str, &str, &str, &str, u32); 20] = [
+    let rows: [(&str, &str, &str, &str, u32); 23] = [
         ("(", "1", ")", ";", 62),
         ("x[", "1", "]", ";", 62),
         ("f(", "1", ")", ";", 62),
@@ -283,8 +284,11 @@ fn depth_64_is_read_and_65_is_not(rt: HostRuntime) -> Result<(), Fail> {
         ("1 ? ", "1", " : 1", ";", 62),
         ("x = ", "1", "", ";", 62),
         ("{", "", "}", "", 63),
+        ("{", "int x;", "}", "", 62),
         ("if (1) ", ";", "", "", 62),
+        ("if (1) ; else if (1) ", ";", "", "", 62),
         ("while (1) ", ";", "", "", 62),
+        ("while (((1))) ", ";", "", "", 61),
         ("do ", ";", " while (1);", "", 62),
         ("for (int i = (1); (1); (1)) ", ";", "", "", 62),
         ("if (1) ; else {", "int x = 1;", "}", "", 31),
