@@ -12,7 +12,7 @@ use Rattle.c11_events.proofs.DecideEvents.{at_below, dec_at, dec_store, dec_prog
 use Rattle.c11_events.proofs.Longer.{new_is}
 use Rattle.c11_events.proofs.Prefix.{same_more, same_less}
 use Rattle.c11_scorder.specs.SeqCst.{IsLast, IsOf, IsStoreOf, IsSeqCstStore, IsSeqCstFence, IsSeqCstFenceOf, IsBeforeFence, seq_cst, fenced}
-use Rattle.c11_scorder.specs.Laws.{IsDecisive, own, other, FencesDecide, AnswersDecide, LastStoreDecides}
+use Rattle.c11_scorder.specs.Laws.{IsDecisive, own, other, FencesDecide, AnswersDecide, LastStoreDecides, LastStoreStandsForAll}
 use Rattle.c11_scorder.proofs.Basic.{of_next, in_order, last_of}
 
 module _ (events : List Event) (e : Event) where
@@ -212,3 +212,18 @@ fences_decide events e cell thread a s = (held events e cell thread a s, decides
 
 pub last_store_decides : LastStoreDecides
 last_store_decides events e cell a = last_decides events e cell a
+
+pub last_store_stands_for_all : LastStoreStandsForAll
+last_store_stands_for_all events e cell = (
+  λ b s p.
+      let is : IsSeqCstStore events cell b = (s, older events e b (λ x. is_seq_cst x.kind ≡ true) p.earlier p.first) in
+      let last = last_of (IsSeqCstStore events cell) (λ x. dec_and (dec_store events cell x) (dec_seq_cst events x)) (length events)
+      (λ x t. let less = at_below events x (λ y. is_seq_cst y.kind ≡ true) t.1 in omega arith) b is in
+      let le = last.1.last b is in (
+        last.0,
+        last.1,
+        dite (ℕ_discrete b last.0) (λ (same : b ≡ last.0). inl same)
+            (λ (differ : b ≡ last.0 → ⊥). inr (record { first = is.1; second = last.1.is.1; earlier = omega arith })),
+      ),
+  λ a last q. before_new events e a last.is.1 q,
+)

@@ -1,13 +1,13 @@
--- This is all of the order of the seq_cst events that the rules need.
+-- That what is kept is all of the order of the seq_cst events that the rules need.
 use Rattle.std.specs.Prelude.{ℕ, suc, ◌≡◌, ◌≤◌, ◌↔◌, true, List, [], ◌∷◌, ◌++◌, length, ◌⊎◌}
 use Rattle.c11_events.specs.declared.event.Event.{Event}
-use Rattle.c11_events.specs.Events.{is_seq_cst}
-use Rattle.c11_events.specs.HappensBefore.{ProgramOrder}
+use Rattle.c11_events.specs.Events.{IsStore, is_seq_cst}
+use Rattle.c11_events.specs.HappensBefore.{ProgramOrder, SeqCstBefore}
 use Rattle.c11_events.specs.Lawful.{Fenced, IsLastSeqCst}
 use Rattle.c11_scorder.specs.SeqCst.{IsLast, IsStoreOf, IsSeqCstStore, IsSeqCstFenceOf, IsBeforeFence}
 
--- the fence f decides which stores of the thread the further event e must not precede: it is the last seq_cst fence of e's thread
--- or, where e is seq_cst, of the thread itself
+-- the fence f decides which stores of the thread must stand before what the further event e reads or writes: it is the last seq_cst
+-- fence of e's thread or, where e is seq_cst, of the thread itself
 pub data IsDecisive (events : List Event) (e : Event) (thread f : ℕ) : Type 0 where
   own : IsLast (IsSeqCstFenceOf events e.thread) f → IsDecisive events e thread f
   other : is_seq_cst e.kind ≡ true → IsLast (IsSeqCstFenceOf events thread) f → IsDecisive events e thread f
@@ -36,3 +36,11 @@ AnswersDecide = (events : List Event) (e : Event) (cell thread : ℕ)
 abbrev pub LastStoreDecides : Type 0
 LastStoreDecides = (events : List Event) (e : Event) (cell a : ℕ)
     → IsLastSeqCst (events ++ e ∷ []) cell (suc (length events)) a ↔ ((is_seq_cst e.kind ≡ true) × IsLast (IsSeqCstStore events cell) a)
+
+-- and each seq_cst store before a further event is the last one of the events or before it, and that one is before the event, where
+-- the event is seq_cst
+abbrev pub LastStoreStandsForAll : Type 0
+LastStoreStandsForAll = (events : List Event) (e : Event) (cell : ℕ)
+    → ((b : ℕ) → IsStore events cell b → SeqCstBefore (events ++ e ∷ []) b (suc (length events))
+    → (a : ℕ) × IsLast (IsSeqCstStore events cell) a × ((b ≡ a) ⊎ SeqCstBefore events b a))
+    × ((a : ℕ) → IsLast (IsSeqCstStore events cell) a → is_seq_cst e.kind ≡ true → SeqCstBefore (events ++ e ∷ []) a (suc (length events)))
