@@ -36,6 +36,19 @@ no_fence (AtomicLoad cell order) d e f = cc
 no_fence (Rmw cell order kind operand) d e f = cc
 no_fence _ d e f = cc
 
+-- what the thread knows happens before its further event
+pub known_before : (events : List Event) (e : Event) (a : ℕ) → IsKnown events e a → HappensBefore (events ++ e ∷ []) a (suc (length events))
+known_before events e a k = elim k.leads [
+  | inl same ↦ subst (λ (z : ℕ). HappensBefore (events ++ e ∷ []) z (suc (length events))) (sym same) (elim k.last [ inl p ↦ one (inl p) | inr p ↦ one (inr (create_to_first p)) ])
+  | inr h ↦ join (hb_more events (e ∷ []) a k.m h) (elim k.last [ inl p ↦ one (inl p) | inr p ↦ one (inr (create_to_first p)) ])
+]
+
+-- a prior store is one
+pub prior_store : (events : List Event) (e : Event) (cell a : ℕ) → ReadsEarlier events → Prior events e cell a → IsStore events cell a
+prior_store events e cell a reads (known_store s k) = s
+prior_store events e cell a reads (known_load {l = l} load k) = (reads cell l a load).0
+prior_store events e cell a reads (fenced s f) = s
+
 module _ (events : List Event) (e : Event) (cell : ℕ) (c : ChainLawful events) (store : IsStore events cell e.from) (loads : loaded_cell e.kind ≡ Some cell) where
   reads : ReadsEarlier (events ++ e ∷ [])
   reads = reads_all events e cell c store loads
@@ -125,26 +138,14 @@ module _ (events : List Event) (e : Event) (cell : ℕ) (c : ChainLawful events)
           let one_event = at_same events s t.event ss.event t.is ss.is in
           record { event = ss.event; is = ss.is; holds = (ss.holds, subst (λ (f : Event). (loaded_cell f.kind ≡ Some cell)) one_event t.holds.0, subst (λ (f : Event). f.from ≡ a) one_event t.holds.1) }
 
-  -- what the thread knows happens before the new event
-  known_hb : (a : ℕ) → IsKnown events e a → HappensBefore (events ++ e ∷ []) a (suc (length events))
-  known_hb a k = elim k.leads [
-    | inl same ↦ subst (λ (z : ℕ). HappensBefore (events ++ e ∷ []) z (suc (length events))) (sym same) (elim k.last [ inl p ↦ one (inl p) | inr p ↦ one (inr (create_to_first p)) ])
-    | inr h ↦ join (hb_more events (e ∷ []) a k.m h) (elim k.last [ inl p ↦ one (inl p) | inr p ↦ one (inr (create_to_first p)) ])
-  ]
-
-  prior_cause : (a : ℕ) → Prior events e cell a → Cause (events ++ e ∷ []) cell a e.from
-  prior_cause a (known_store s k) = write_read (known_hb a k) (new_load events e cell c store loads)
-  prior_cause a (known_load {l = l} load k) = read_read (load_more events (e ∷ []) cell l a load) (new_load events e cell c store loads) (known_hb l k)
+  pub prior_cause : (a : ℕ) → Prior events e cell a → Cause (events ++ e ∷ []) cell a e.from
+  prior_cause a (known_store s k) = write_read (known_before events e a k) (new_load events e cell c store loads)
+  prior_cause a (known_load {l = l} load k) = read_read (load_more events (e ∷ []) cell l a load) (new_load events e cell c store loads) (known_before events e l k)
   prior_cause a (fenced s f) = fenced_read f (new_load events e cell c store loads)
-
-  prior_store : (a : ℕ) → Prior events e cell a → IsStore events cell a
-  prior_store a (known_store s k) = s
-  prior_store a (known_load {l = l} load k) = (c.reads cell l a load).0
-  prior_store a (fenced s f) = s
 
   pub to_priors : Fits events e cell → FitsPriors events e cell
   to_priors fits = record {
-    prior = λ a differ p. fits.prior_read a (record { first = store_more events (e ∷ []) cell a (prior_store a p); second = store_more events (e ∷ []) cell e.from store; differ = differ; cause = prior_cause a p });
+    prior = λ a differ p. fits.prior_read a (record { first = store_more events (e ∷ []) cell a (prior_store events e cell a c.reads p); second = store_more events (e ∷ []) cell e.from store; differ = differ; cause = prior_cause a p });
     prior_seq_cst = λ a differ is sa s. fits.prior_write a differ (record {
       first = store_more events (e ∷ []) cell a sa;
       second = record { event = e; is = new_is events e; holds = is };
@@ -178,7 +179,7 @@ module _ (events : List Event) (e : Event) (cell : ℕ) (c : ChainLawful events)
     | inr p ↦ new p.0
   ]
 
-  read_pair : (a : ℕ) → IsStore events cell a → (a ≡ e.from → ⊥) → Cause (events ++ e ∷ []) cell a e.from → Known a
+  pub read_pair : (a : ℕ) → IsStore events cell a → (a ≡ e.from → ⊥) → Cause (events ++ e ∷ []) cell a e.from → Known a
   read_pair a sa differ (write_write h) = old_pair a sa differ (write_write (hb_less events (e ∷ []) reads a e.from (omega (arith, from_below events e cell c store loads)) h))
   read_pair a sa differ (write_read {l = l} h load) = by_load l (Known a) load
       (λ le load'. old_pair a sa differ (write_read (hb_less events (e ∷ []) reads a l le h) load')) (λ is. store_known a sa (subst (λ (z : ℕ). HappensBefore (events ++ e ∷ []) a z) is h))
@@ -200,7 +201,7 @@ module _ (events : List Event) (e : Event) (cell : ℕ) (c : ChainLawful events)
     | inr p ↦ omega (arith, p.0, (reads cell l (suc (length events)) load).1)
   ]
 
-  write_pair : (a : ℕ) → IsStore events cell a → Cause (events ++ e ∷ []) cell a (suc (length events)) → Known a ⊎ SeqCstBefore (events ++ e ∷ []) a (suc (length events))
+  pub write_pair : (a : ℕ) → IsStore events cell a → Cause (events ++ e ∷ []) cell a (suc (length events)) → Known a ⊎ SeqCstBefore (events ++ e ∷ []) a (suc (length events))
   write_pair a sa (write_write h) = inl (store_known a sa h)
   write_pair a sa (write_read {l = l} h load) = absurd (no_reader l load)
   write_pair a sa (read_write {l = l} load h) = inl (load_known a l (load_less events (e ∷ []) cell l a (below_new l h) load) h)

@@ -68,7 +68,7 @@ module _ (events : List Event) (e : Event) (cell : ℕ) (c : ChainLawful events)
   first_old d a b m = omega (arith, cause_below (events ++ e ∷ []) d a b reads_all m.second m.cause, length-append events (e ∷ []))
 
   -- a pair whose second store is not read by the new event is an old pair
-  must_old : (d a b : ℕ) → b ≤ length events → (b ≡ e.from → ⊥) → MustPrecede (events ++ e ∷ []) d a b → MustPrecede events d a b
+  pub must_old : (d a b : ℕ) → b ≤ length events → (b ≡ e.from → ⊥) → MustPrecede (events ++ e ∷ []) d a b → MustPrecede events d a b
   must_old d a b le differ m = must_less events (e ∷ []) reads_all d a b le
       (λ l load. elim (old_or_new events e l (λ f. (loaded_cell f.kind ≡ Some d) × (f.from ≡ b)) load) [ inl le' ↦ le' | inr p ↦ absurd (differ (sym p.1.1)) ]) m
 
@@ -82,7 +82,7 @@ module _ (events : List Event) (e : Event) (cell : ℕ) (c : ChainLawful events)
       }
 
   -- what the cell of a pair into the store that is read is
-  read_cell : (d b : ℕ) → b ≡ e.from → IsStore events d b → d ≡ cell
+  pub read_cell : (d b : ℕ) → b ≡ e.from → IsStore events d b → d ≡ cell
   read_cell d b is s = store_cell events e.from d cell (subst (λ (z : ℕ). IsStore events d z) is s) store
 
   -- the chain of the store that is read
@@ -93,7 +93,7 @@ module _ (events : List Event) (e : Event) (cell : ℕ) (c : ChainLawful events)
   pub new_rmw : (d : ℕ) → stored_cell e.kind ≡ Some d → (d ≡ cell) → IsRmw (events ++ e ∷ []) cell (suc (length events)) e.from
   new_rmw d is same = record { event = e; is = new_is events e; holds = (is ∙ ap (λ (k : ℕ). Some k) same, loads, refl) }
 
-  new_store_cell : (d : ℕ) → stored_cell e.kind ≡ Some d → d ≡ cell
+  pub new_store_cell : (d : ℕ) → stored_cell e.kind ≡ Some d → d ≡ cell
   new_store_cell d is = sym (kind_same e.kind d cell is loads)
 
   ranked_new : (d h i : ℕ) → d ≡ cell → IsRanked (events ++ e ∷ []) d h i (suc (length events)) → stored_cell e.kind ≡ Some d → (mine.0 ≡ h) × (suc mine.1.0 ≡ i)

@@ -32,3 +32,4 @@ pub mod Newest
 pub mod Histories
 pub mod OneThread
 pub mod Valued
+pub mod Adding

@@ -18,16 +18,16 @@ use Rattle.c11_events.proofs.Ranks.{ranked_same}
 use Rattle.c11_events.proofs.Rises.{rmw_load}
 
 module _ (events : List Event) (e : Event) (c : ChainLawful events) (none : loaded_cell e.kind ≡ None) where
-  load_old : (d l y : ℕ) → IsLoad (events ++ e ∷ []) d l y → l ≤ length events
+  pub load_old : (d l y : ℕ) → IsLoad (events ++ e ∷ []) d l y → l ≤ length events
   load_old d l y load = elim (old_or_new events e l (λ f. (loaded_cell f.kind ≡ Some d) × (f.from ≡ y)) load) [
     | inl le ↦ le
     | inr p ↦ (let clash : None ≡ Some d = sym none ∙ p.1.0 in cc)
   ]
 
-  reads_all : ReadsEarlier (events ++ e ∷ [])
+  pub reads_all : ReadsEarlier (events ++ e ∷ [])
   reads_all d l y load = let r = c.reads d l y (load_less events (e ∷ []) d l y (load_old d l y load) load) in (store_more events (e ∷ []) d y r.0, r.1)
 
-  first_old : (d a b : ℕ) → MustPrecede (events ++ e ∷ []) d a b → a ≤ length events
+  pub first_old : (d a b : ℕ) → MustPrecede (events ++ e ∷ []) d a b → a ≤ length events
   first_old d a b m = omega (arith, cause_below (events ++ e ∷ []) d a b reads_all m.second m.cause, length-append events (e ∷ []))
 
   ranked_less : (d h i y : ℕ) → y ≤ length events → IsRanked (events ++ e ∷ []) d h i y → IsRanked events d h i y

@@ -22,7 +22,7 @@ module _ (events more : List Event) where
   cause_more cell a b (fenced_read {l = l} f load) = fenced_read (fenced_more events more a l f) (load_more events more cell l b load)
   cause_more cell a b (fenced_write f) = fenced_write (fenced_more events more a b f)
 
-  must_more : (cell a b : ℕ) → MustPrecede events cell a b → MustPrecede (events ++ more) cell a b
+  pub must_more : (cell a b : ℕ) → MustPrecede events cell a b → MustPrecede (events ++ more) cell a b
   must_more cell a b m = record { first = store_more events more cell a m.first; second = store_more events more cell b m.second; differ = m.differ; cause = cause_more cell a b m.cause }
 
   pub ranked_more : (cell h i x : ℕ) → IsRanked events cell h i x → IsRanked (events ++ more) cell h i x

@@ -19,6 +19,7 @@ use Rattle.c11_events.specs.Steps.{IsStep, init_entries}
 use Rattle.c11_events.specs.Races.{Races, IsRacing, Kept}
 use Rattle.c11_events.specs.Chains.{ChainLawful}
 use Rattle.c11_events.specs.Offered.{IsOffered, Offered, ChainOffered}
+use Rattle.c11_events.specs.Added.{ReadsStore, Adds, OrdersStores, KeepsStores}
 
 -- happens-before leads from smaller to larger numbers
 abbrev pub HappensBeforeRises : Type 0
@@ -112,3 +113,15 @@ StepStaysConsistent = (setting : Setting) (entries : List Entry) (thread : ℕ) 
 -- a history of Inits alone is consistent
 abbrev pub InitsAreConsistent : Type 0
 InitsAreConsistent = (cells : List CellInfo) → Consistent (events_of (init_entries cells))
+
+-- what a further event adds to what must precede what
+abbrev pub EventAdds : Type 0
+EventAdds = (events : List Event) (e : Event) → ChainLawful events → ReadsStore events e → Adds events e
+
+-- to reach is a strict order of a chain-lawful list's stores, which holds what must precede
+abbrev pub ReachOrders : Type 0
+ReachOrders = (events : List Event) (cell : ℕ) → ChainLawful events → OrdersStores events cell
+
+-- what must precede and what is reached stays so in a longer list
+abbrev pub ReachStays : Type 0
+ReachStays = (events more : List Event) (cell : ℕ) → KeepsStores events more cell

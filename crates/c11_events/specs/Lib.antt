@@ -1,3 +1,4 @@
+pub mod Added
 pub mod Chains
 pub mod Closure
 pub mod Dead

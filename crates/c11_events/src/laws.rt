@@ -1,4 +1,4 @@
-ghost use Rattle.c11_events.specs.Laws.{HappensBeforeRises, HappensBeforeStays, HappensBeforeNew, ConsistentIsChainLawful, ChainLawfulIsConsistent, PrefixIsConsistent, OffersAgree, LastIsOffered, SomeIsOffered, LayoutIsLawful, LayoutExists, ReadFits, OthersFit, ReadFitsPriors, DeadIsNotOffered, RacesAreKept, RacingIsKept, ValueByRead, OneThreadReadsLast, StepStaysConsistent, InitsAreConsistent};
+ghost use Rattle.c11_events.specs.Laws.{HappensBeforeRises, HappensBeforeStays, HappensBeforeNew, ConsistentIsChainLawful, ChainLawfulIsConsistent, PrefixIsConsistent, OffersAgree, LastIsOffered, SomeIsOffered, LayoutIsLawful, LayoutExists, ReadFits, OthersFit, ReadFitsPriors, DeadIsNotOffered, RacesAreKept, RacingIsKept, ValueByRead, OneThreadReadsLast, StepStaysConsistent, InitsAreConsistent, EventAdds, ReachOrders, ReachStays};
 
 /// Happens-before leads from smaller to larger numbers.
 pub fn happens_before_rises()
@@ -87,4 +87,16 @@ pub fn one_thread_reads_last()
 pub fn histories_are_consistent()
     ensures inits { InitsAreConsistent }
     ensures steps { StepStaysConsistent }
+{}
+
+/// What a further event adds to what must precede what: pairs into the store that it reads and into itself, all from prior stores, or
+/// from stores that came before what is read already.
+pub fn event_adds()
+    ensures { EventAdds }
+{}
+
+/// To reach is a strict order of the stores of a cell, which holds what must precede, and stays so in a longer list.
+pub fn reach_orders()
+    ensures orders { ReachOrders }
+    ensures stays { ReachStays }
 {}
