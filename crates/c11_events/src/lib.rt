@@ -4,6 +4,7 @@
 mod cells;
 mod entry;
 mod event;
+mod kinds;
 pub mod laws;
 mod op;
 mod order;
