@@ -6,7 +6,6 @@ ghost use Rattle.c11_events.specs.Events.{unlocked_mutex, is_create};
 ghost use Rattle.c11_happens.specs.Noting.{row, AreWide, by_stored, by_unlocked, is_load, is_store, started, joined_if};
 ghost use Rattle.c11_happens.specs.Mutexes.{state_in};
 
-use crate::kinds;
 use crate::mutexes::{Mutexes, state_of};
 use crate::take::join_if;
 use c11_clock::Clock;
@@ -16,14 +15,14 @@ use c11_events::Event;
 pub(crate) fn is_load(event: &Event) -> bool
     ensures { result ≡ is_load event.now }
 {
-    kinds::loaded_cell(&event.kind).is_some()
+    event.kind.loaded_cell().is_some()
 }
 
 // Whether the event writes an atomic cell.
 fn is_store(event: &Event) -> bool
     ensures { result ≡ is_store event.now }
 {
-    kinds::stored_cell(&event.kind).is_some()
+    event.kind.stored_cell().is_some()
 }
 
 /// What a load's thread may take over by a later acquire fence.
@@ -50,7 +49,7 @@ fn hand_store(clock: &mut Clock, event: &Event, passed: &[Clock], fenced: &[Cloc
 {
     let stores = is_store(event);
     join_if(stores, clock, &fenced[event.thread as usize]);
-    join_if(kinds::is_release_store(&event.kind), clock, own);
+    join_if(event.kind.is_release_store(), clock, own);
     if stores && is_load(event) {
         clock.join(&passed[event.from as usize]);
     }
@@ -64,7 +63,7 @@ fn hand_unlock(clock: &mut Clock, event: &Event, mutexes: &Mutexes, passed: &[Cl
     ensures joined { clock.new ≡ by_unlocked (unlocked_mutex event.now.kind) (state_in mutexes.now) passed.now own.now clock.old }
     ensures places { length clock.new ≡ length clock.old }
 {
-    if let Some(mutex) = kinds::unlocked_mutex(&event.kind) {
+    if let Some(mutex) = event.kind.unlocked_mutex() {
         clock.join(own);
         clock.join(&passed[state_of(mutexes, mutex).last_unlock as usize]);
     }
@@ -111,7 +110,7 @@ pub(crate) fn note_create(known: &mut [Clock], created: &mut u32, event: &Event,
     ensures created { created.new ≡ created.old + (if is_create event.now.kind then 1 else 0) }
     ensures known { known.new ≡ (if is_create event.now.kind then started known.old own.now (created.old + 1) else known.old) }
 {
-    if kinds::is_create(&event.kind) {
+    if event.kind.is_create() {
         *created += 1;
         start(known, *created, own);
     }

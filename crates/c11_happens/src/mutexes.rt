@@ -25,7 +25,7 @@ pub(crate) type Mutexes = HashMap<u32, MutexState>;
 fn locks(event: &Event, mutex: u32) -> bool
     ensures { result ≡ option_is (locked_mutex event.now.kind) mutex }
 {
-    match kinds::locked_mutex(&event.kind) {
+    match event.kind.locked_mutex() {
         Some(locked) => locked == mutex,
         None => false,
     }
@@ -35,7 +35,7 @@ fn locks(event: &Event, mutex: u32) -> bool
 fn unlocks(event: &Event, mutex: u32) -> bool
     ensures { result ≡ option_is (unlocked_mutex event.now.kind) mutex }
 {
-    match kinds::unlocked_mutex(&event.kind) {
+    match event.kind.unlocked_mutex() {
         Some(unlocked) => unlocked == mutex,
         None => false,
     }

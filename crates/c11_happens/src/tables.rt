@@ -6,7 +6,6 @@ ghost use Rattle.c11_happens.specs.Kept.{IsKept};
 ghost use Rattle.c11_happens.specs.Sound.{contents};
 
 use crate::hand::{hand_on, keep_read, note_create};
-use crate::kinds;
 use crate::mutexes::{Mutexes, note_mutex};
 use crate::take::{join_if, note_clock};
 use c11_clock::Clock;
@@ -111,16 +110,11 @@ impl Tables {
         hand_on(&mut self.passed, event, &self.mutexes, &self.fenced, own);
         note_own(
             &mut self.fenced,
-            kinds::is_release_fence(&event.kind),
+            event.kind.is_release_fence(),
             event.thread,
             own,
         );
-        note_own(
-            &mut self.ended,
-            kinds::is_end(&event.kind),
-            event.thread,
-            own,
-        );
+        note_own(&mut self.ended, event.kind.is_end(), event.thread, own);
         note_create(&mut self.known, &mut self.created, event, own);
         note_mutex(&mut self.mutexes, event);
     }

@@ -7,7 +7,6 @@ ghost use Rattle.c11_happens.specs.Noting.{row, AreWide, joined_if, after_store,
 ghost use Rattle.c11_clock.specs.Clocks.{joined};
 ghost use Rattle.c11_happens.specs.Mutexes.{state_in};
 
-use crate::kinds;
 use crate::mutexes::{Mutexes, state_of};
 use c11_clock::Clock;
 use c11_events::Event;
@@ -30,7 +29,7 @@ fn take_from_store(clock: &mut Clock, event: &Event, passed: &[Clock])
     ensures joined { clock.new ≡ after_store event.now passed.now clock.old }
     ensures places { length clock.new ≡ length clock.old }
 {
-    if kinds::is_acquire_load(&event.kind) {
+    if event.kind.is_acquire_load() {
         clock.join(&passed[event.from as usize]);
     }
 }
@@ -42,7 +41,7 @@ fn take_by_fence(clock: &mut Clock, event: &Event, read: &[Clock])
     ensures joined { clock.new ≡ after_fence event.now read.now clock.old }
     ensures places { length clock.new ≡ length clock.old }
 {
-    if kinds::is_acquire_fence(&event.kind) {
+    if event.kind.is_acquire_fence() {
         clock.join(&read[event.thread as usize]);
     }
 }
@@ -54,7 +53,7 @@ fn take_from_unlock(clock: &mut Clock, event: &Event, mutexes: &Mutexes, passed:
     ensures joined { clock.new ≡ after_unlock (locked_mutex event.now.kind) (state_in mutexes.now) passed.now clock.old }
     ensures places { length clock.new ≡ length clock.old }
 {
-    if let Some(mutex) = kinds::locked_mutex(&event.kind) {
+    if let Some(mutex) = event.kind.locked_mutex() {
         let state = state_of(mutexes, mutex);
         if state.holder.is_none() {
             clock.join(&passed[state.last_unlock as usize]);
@@ -68,7 +67,7 @@ fn take_from_end(clock: &mut Clock, event: &Event, ended: &[Clock])
     ensures joined { clock.new ≡ after_end (joined_thread event.now.kind) ended.now clock.old }
     ensures places { length clock.new ≡ length clock.old }
 {
-    if let Some(thread) = kinds::joined_thread(&event.kind) {
+    if let Some(thread) = event.kind.joined_thread() {
         if (thread as usize) < ended.len() {
             clock.join(&ended[thread as usize]);
         }

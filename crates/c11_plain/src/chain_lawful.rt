@@ -4,7 +4,6 @@ ghost use Rattle.c11_events.specs.Chains.{ChainLawful};
 ghost use Rattle.c11_plain.specs.Relations.{AreRelations};
 ghost use Rattle.c11_plain.specs.ChainParts.{IsAcyclic, KeepsRanks, IsCellChainLawful, IsEventChainLawful};
 
-use crate::kinds;
 use crate::links::{links, must_precede};
 use crate::reading::reads_earlier;
 use crate::relations::{Relations, relations_of};
@@ -69,7 +68,7 @@ fn is_event_chain_lawful(
     requires all { AreRelations events.now all.now }
     ensures { IfOk result (λ lawful. IsTrue lawful ↔ IsEventChainLawful events.now event.now) }
 {
-    match kinds::stored_cell(&event.kind) {
+    match event.kind.stored_cell() {
         Some(cell) => is_cell_chain_lawful(alloc, events, all, cell),
         None => Ok(true),
     }

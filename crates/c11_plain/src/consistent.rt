@@ -4,7 +4,6 @@ ghost use Rattle.c11_plain.specs.Relations.{AreRelations};
 ghost use Rattle.c11_plain.specs.Consistency.{MayStand, Extends, HasOrder, HasOrders};
 
 use crate::events::is_store;
-use crate::kinds;
 use crate::lawful::keeps_all;
 use crate::orders::stands_before;
 use crate::reading::reads_earlier;
@@ -76,7 +75,7 @@ fn has_order_of(
     requires { AreRelations events.now all.now }
     ensures { IfOk result (λ found. IsTrue found ↔ HasOrders events.now event.now) }
 {
-    match kinds::stored_cell(&event.kind) {
+    match event.kind.stored_cell() {
         Some(cell) => has_order(alloc, events, all, cell),
         None => Ok(true),
     }

@@ -6,7 +6,6 @@ ghost use Rattle.c11_events.specs.Races.{SameThread};
 ghost use Rattle.c11_plain.specs.Parts.{IsFirst};
 
 use crate::events::{event_at, is_create, is_join, is_lock, is_of_thread, is_seq_cst, prefix};
-use crate::kinds;
 use crate::search::some_below;
 use c11_events::Event;
 
@@ -40,7 +39,7 @@ fn created(events: &[Event], number: u32) -> u32
 {
     prefix(events, number)
         .iter()
-        .filter(|event| kinds::is_create(&event.kind))
+        .filter(|event| event.kind.is_create())
         .count() as u32
 }
 
@@ -49,9 +48,10 @@ fn holder_next(held: Option<u32>, mutex: u32, event: &Event) -> Option<u32>
     ensures { result ≡ holder_next held mutex event.now }
 {
     match held {
-        None if kinds::locked_mutex(&event.kind) == Some(mutex) => Some(event.thread),
-        Some(owner) if kinds::unlocked_mutex(&event.kind) == Some(mutex) && event.thread == owner =>
-            { None }
+        None if event.kind.locked_mutex() == Some(mutex) => Some(event.thread),
+        Some(owner) if event.kind.unlocked_mutex() == Some(mutex) && event.thread == owner => {
+            None
+        }
         _ => held,
     }
 }
@@ -74,7 +74,7 @@ pub(crate) fn unlock_before_lock(events: &[Event], a: u32, b: u32) -> bool
     let Some(event) = event_at(events, a) else {
         return false;
     };
-    match kinds::unlocked_mutex(&event.kind) {
+    match event.kind.unlocked_mutex() {
         Some(mutex) => {
             a < b && is_lock(events, mutex, b) && holder(prefix(events, b - 1), mutex).is_none()
         }
@@ -111,7 +111,7 @@ pub(crate) fn end_before_join(events: &[Event], a: u32, b: u32) -> bool
     ensures { IsTrue result ↔ EndBeforeJoin events.now a b }
 {
     match event_at(events, a) {
-        Some(event) => a < b && kinds::is_end(&event.kind) && is_join(events, event.thread, b),
+        Some(event) => a < b && event.kind.is_end() && is_join(events, event.thread, b),
         None => false,
     }
 }

@@ -5,7 +5,6 @@ ghost use Rattle.c11_events.specs.Events.{At, event_at, IsStore, IsLoad, IsRmw};
 ghost use Rattle.c11_events.specs.HappensBefore.{IsReleaseStore, IsReleaseFence, IsAcquireLoad, IsAcquireFence, IsSeqCst};
 ghost use Rattle.c11_events.specs.Lawful.{IsFence};
 
-use crate::kinds;
 use c11_events::Event;
 
 /// The event with this number, if there is one. Numbers count from 1.
@@ -28,7 +27,7 @@ pub(crate) fn is_store(events: &[Event], cell: u32, x: u32) -> bool
     ensures { IsTrue result ↔ IsStore events.now cell x }
 {
     match event_at(events, x) {
-        Some(event) => kinds::stored_cell(&event.kind) == Some(cell),
+        Some(event) => event.kind.stored_cell() == Some(cell),
         None => false,
     }
 }
@@ -38,7 +37,7 @@ pub(crate) fn is_load(events: &[Event], cell: u32, l: u32, x: u32) -> bool
     ensures { IsTrue result ↔ IsLoad events.now cell l x }
 {
     match event_at(events, l) {
-        Some(event) => kinds::loaded_cell(&event.kind) == Some(cell) && event.from == x,
+        Some(event) => event.kind.loaded_cell() == Some(cell) && event.from == x,
         None => false,
     }
 }
@@ -49,8 +48,8 @@ pub(crate) fn is_rmw(events: &[Event], cell: u32, b: u32, x: u32) -> bool
 {
     match event_at(events, b) {
         Some(event) => {
-            kinds::stored_cell(&event.kind) == Some(cell)
-                && kinds::loaded_cell(&event.kind) == Some(cell)
+            event.kind.stored_cell() == Some(cell)
+                && event.kind.loaded_cell() == Some(cell)
                 && event.from == x
         }
         None => false,
@@ -72,7 +71,7 @@ pub(crate) fn is_create(events: &[Event], a: u32) -> bool
     ensures { IsTrue result ↔ At events.now a (λ e. spec.is_create e.kind ≡ true) }
 {
     match event_at(events, a) {
-        Some(event) => kinds::is_create(&event.kind),
+        Some(event) => event.kind.is_create(),
         None => false,
     }
 }
@@ -82,7 +81,7 @@ pub(crate) fn is_join(events: &[Event], thread: u32, a: u32) -> bool
     ensures { IsTrue result ↔ At events.now a (λ e. spec.joined_thread e.kind ≡ Some thread) }
 {
     match event_at(events, a) {
-        Some(event) => kinds::joined_thread(&event.kind) == Some(thread),
+        Some(event) => event.kind.joined_thread() == Some(thread),
         None => false,
     }
 }
@@ -92,7 +91,7 @@ pub(crate) fn is_lock(events: &[Event], mutex: u32, a: u32) -> bool
     ensures { IsTrue result ↔ At events.now a (λ e. spec.locked_mutex e.kind ≡ Some mutex) }
 {
     match event_at(events, a) {
-        Some(event) => kinds::locked_mutex(&event.kind) == Some(mutex),
+        Some(event) => event.kind.locked_mutex() == Some(mutex),
         None => false,
     }
 }
@@ -102,7 +101,7 @@ pub(crate) fn is_release_store(events: &[Event], a: u32) -> bool
     ensures { IsTrue result ↔ IsReleaseStore events.now a }
 {
     match event_at(events, a) {
-        Some(event) => kinds::is_release_store(&event.kind),
+        Some(event) => event.kind.is_release_store(),
         None => false,
     }
 }
@@ -112,7 +111,7 @@ pub(crate) fn is_release_fence(events: &[Event], a: u32) -> bool
     ensures { IsTrue result ↔ IsReleaseFence events.now a }
 {
     match event_at(events, a) {
-        Some(event) => kinds::is_release_fence(&event.kind),
+        Some(event) => event.kind.is_release_fence(),
         None => false,
     }
 }
@@ -122,7 +121,7 @@ pub(crate) fn is_acquire_load(events: &[Event], a: u32) -> bool
     ensures { IsTrue result ↔ IsAcquireLoad events.now a }
 {
     match event_at(events, a) {
-        Some(event) => kinds::is_acquire_load(&event.kind),
+        Some(event) => event.kind.is_acquire_load(),
         None => false,
     }
 }
@@ -132,7 +131,7 @@ pub(crate) fn is_acquire_fence(events: &[Event], a: u32) -> bool
     ensures { IsTrue result ↔ IsAcquireFence events.now a }
 {
     match event_at(events, a) {
-        Some(event) => kinds::is_acquire_fence(&event.kind),
+        Some(event) => event.kind.is_acquire_fence(),
         None => false,
     }
 }
@@ -142,7 +141,7 @@ pub(crate) fn is_fence(events: &[Event], a: u32) -> bool
     ensures { IsTrue result ↔ IsFence events.now a }
 {
     match event_at(events, a) {
-        Some(event) => kinds::is_fence(&event.kind),
+        Some(event) => event.kind.is_fence(),
         None => false,
     }
 }
@@ -152,7 +151,7 @@ pub(crate) fn is_seq_cst(events: &[Event], a: u32) -> bool
     ensures { IsTrue result ↔ IsSeqCst events.now a }
 {
     match event_at(events, a) {
-        Some(event) => kinds::is_seq_cst(&event.kind),
+        Some(event) => event.kind.is_seq_cst(),
         None => false,
     }
 }

@@ -10,7 +10,6 @@ mod direct;
 mod events;
 mod fences;
 mod happens;
-mod kinds;
 mod lawful;
 mod links;
 mod modification;

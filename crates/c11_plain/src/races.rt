@@ -7,7 +7,6 @@ ghost use Rattle.c11_plain.specs.Parts.{WriteConflict, ReadConflict, RacesAnywhe
 use crate::direct::same_thread;
 use crate::events::event_at;
 use crate::happens::happens_before;
-use crate::kinds;
 use crate::pairs::Pairs;
 use c11_events::Event;
 use c11_num::NoMemory;
@@ -18,7 +17,7 @@ fn is_read(events: &[Event], cell: u32, a: u32) -> bool
     ensures { IsTrue result ↔ IsRead events.now cell a }
 {
     match event_at(events, a) {
-        Some(event) => kinds::read_cell(&event.kind) == Some(cell),
+        Some(event) => event.kind.read_cell() == Some(cell),
         None => false,
     }
 }
@@ -28,7 +27,7 @@ fn is_write(events: &[Event], cell: u32, a: u32) -> bool
     ensures { IsTrue result ↔ IsWrite events.now cell a }
 {
     match event_at(events, a) {
-        Some(event) => kinds::written_cell(&event.kind) == Some(cell),
+        Some(event) => event.kind.written_cell() == Some(cell),
         None => false,
     }
 }
@@ -40,7 +39,7 @@ fn write_conflict(events: &[Event], m: u32, n: u32) -> bool
     let Some(event) = event_at(events, m) else {
         return false;
     };
-    match kinds::written_cell(&event.kind) {
+    match event.kind.written_cell() {
         Some(cell) => is_read(events, cell, n) || is_write(events, cell, n),
         None => false,
     }
@@ -53,7 +52,7 @@ fn read_conflict(events: &[Event], m: u32, n: u32) -> bool
     let Some(event) = event_at(events, m) else {
         return false;
     };
-    match kinds::read_cell(&event.kind) {
+    match event.kind.read_cell() {
         Some(cell) => is_write(events, cell, n),
         None => false,
     }

@@ -3,7 +3,6 @@ ghost use Rattle.c11_events.specs.Events.{IsStore, ReadsEarlier};
 ghost use Rattle.c11_plain.specs.Reading.{ReadsWell};
 
 use crate::events::is_store;
-use crate::kinds;
 use c11_events::Event;
 
 // Whether x is a store of the cell, and at most this number.
@@ -17,7 +16,7 @@ fn is_store_within(events: &[Event], cell: u32, x: u32, most: usize) -> bool
 fn reads_well(events: &[Event], event: &Event, place: usize) -> bool
     ensures { IsTrue result ↔ ReadsWell events.now event.now place }
 {
-    match kinds::loaded_cell(&event.kind) {
+    match event.kind.loaded_cell() {
         Some(cell) => is_store_within(events, cell, event.from, place),
         None => true,
     }

@@ -5,7 +5,6 @@ ghost use Rattle.c11_plain.specs.Pairs.{Holds};
 ghost use Rattle.c11_plain.specs.Rules.{WritesInOrder, ReadsNoOlder, ReadsNoOlderThan, WritesAfterReads, ReadsInOrder, ReadInOrder, RmwsAdjoin};
 
 use crate::events::{event_at, is_store};
-use crate::kinds;
 use crate::orders::{is_next, precedes};
 use crate::pairs::Pairs;
 use crate::search::some_below;
@@ -16,7 +15,7 @@ pub(crate) fn load_of(events: &[Event], cell: u32, l: u32) -> Option<u32>
     ensures { (x : ℕ) → (result ≡ Some x) ↔ IsLoad events.now cell l x }
 {
     let event = event_at(events, l)?;
-    if kinds::loaded_cell(&event.kind) == Some(cell) {
+    if event.kind.loaded_cell() == Some(cell) {
         Some(event.from)
     } else {
         None

@@ -5,7 +5,6 @@ ghost use Rattle.c11_plain.specs.Parts.{ReadsFrom, Follows};
 
 use crate::direct::{create_before_first, end_before_join, program_order, unlock_before_lock};
 use crate::events::{event_at, is_rmw, is_store};
-use crate::kinds;
 use crate::pairs::Pairs;
 use c11_events::Event;
 use c11_num::NoMemory;
@@ -28,7 +27,7 @@ fn reads_from(events: &[Event], x: u32, l: u32) -> bool
     let Some(event) = event_at(events, l) else {
         return false;
     };
-    match kinds::loaded_cell(&event.kind) {
+    match event.kind.loaded_cell() {
         Some(cell) => event.from == x && is_store(events, cell, x),
         None => false,
     }
@@ -41,7 +40,7 @@ fn follows(events: &[Event], y: u32, x: u32) -> bool
     let Some(event) = event_at(events, x) else {
         return false;
     };
-    match kinds::loaded_cell(&event.kind) {
+    match event.kind.loaded_cell() {
         Some(cell) => is_rmw(events, cell, x, y) && is_store(events, cell, y),
         None => false,
     }

@@ -4,7 +4,7 @@ ghost use Rattle.c11_events.specs.Events.{stored_cell};
 ghost use Rattle.c11_scorder.specs.SeqCst.{Answers, IsSeqCstStore, IsSeqCstFence, IsSeqCstFenceOf, IsBeforeFence};
 ghost use Rattle.c11_scorder.specs.Tables.{StandsFor, AreAlike, AreSame, cells_of, threads_of, some_if, IsLastStoreUpTo};
 
-use crate::kinds::{is_seq_cst_fence, seq_cst_cell, stored_cell};
+use crate::kinds::{is_seq_cst_fence, seq_cst_cell};
 use crate::tables::{later, note_at, set_at};
 use c11_events::Event;
 use c11_latest::Latest;
@@ -84,7 +84,7 @@ impl ScOrder {
         let thread = event.thread;
         let seq_cst = seq_cst_cell(&event.kind);
         let fence = is_seq_cst_fence(&event.kind);
-        note_at(&mut self.stores, stored_cell(&event.kind), thread, number);
+        note_at(&mut self.stores, event.kind.stored_cell(), thread, number);
         note_at(&mut self.seq_cst_stores, seq_cst, thread, number);
         note_at(&mut self.fences, some_if(fence, FENCES), thread, number);
         set_at(&mut self.last_stores, seq_cst, number);

@@ -12,7 +12,7 @@ use Rattle.c11_events.specs.Offered.{Offered}
 use Rattle.c11t.specs.declared.command.DueStop.{DueStop}
 use Rattle.c11t.specs.declared.command.DueStop.TheVariants as stop
 use Rattle.c11t.specs.declared.form.Statement.{Statement}
-use Rattle.c11t.specs.declared.text.Mode.TheVariants as mode
+use Rattle.c11_report.specs.declared.text.Mode.TheVariants as mode
 use Rattle.c11t.specs.declared.words.Command.{Command}
 use Rattle.c11t.specs.declared.words.Command.TheVariants.{Run}
 use Rattle.c11t.specs.declared.words.Status.{Status}
@@ -20,7 +20,10 @@ use Rattle.c11t.specs.declared.words.Status.TheVariants.{Done, Found, Bound, Ref
 use Rattle.c11t.specs.FirstForm.{IsWritten}
 use Rattle.c11t.specs.Programs.{program_of, form_names}
 use Rattle.c11t.specs.Runs.{OneRun}
-use Rattle.c11t.specs.Texts.{execution_bytes, refused_bytes, usage_bytes}
+use Rattle.c11_report.specs.declared.refusal.RefusalWord.TheVariants.{Form}
+use Rattle.c11_report.specs.Refusals.{refusal_bytes}
+use Rattle.c11_report.specs.Execution.{execution_bytes}
+use Rattle.c11t.specs.Usage.{usage_bytes}
 
 -- the status of a run, by its verdict
 abbrev pub status_of : Verdict → Status
@@ -59,6 +62,10 @@ pub record IsPrintedRun (left : Option (List ℕ)) (seed bound : ℕ) (status : 
   pub consistent : Consistent (events_of entries)
   pub ends : status ≡ status_of verdict
   pub printed : bytes ≡ execution_bytes (form_names names) mode.Run seed bound entries verdict
+
+-- what is written of a text that is no program of the first form
+abbrev pub refused_bytes : List ℕ
+refused_bytes = refusal_bytes (record { word = Form; place = None })
 
 -- the source held a text that is no program, and the bytes say so
 pub record IsPrintedRefusal (left : Option (List ℕ)) (status : Status) (bytes : List ℕ) : Type 0 where

@@ -4,5 +4,5 @@ pub mod Fronts
 pub mod Programs
 pub mod RunLaws
 pub mod Runs
-pub mod Texts
+pub mod Usage
 pub mod Words

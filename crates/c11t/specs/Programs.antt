@@ -14,7 +14,7 @@ use Rattle.c11t.specs.declared.form.Action.TheVariants.{Store, Load}
 use Rattle.c11t.specs.declared.form.Statement.{Statement}
 use Rattle.c11t.specs.FirstForm.{line_of_statement, line_of_end}
 use Rattle.c11t.specs.Runs.{Program}
-use Rattle.c11t.specs.Texts.{Names}
+use Rattle.c11_report.specs.Execution.{Names}
 
 -- an `int` value
 abbrev pub int_value : ℕ → TypedNumber

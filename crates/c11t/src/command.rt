@@ -6,15 +6,13 @@ ghost use Rattle.c11t.specs.declared.form.Statement.{Statement};
 ghost use Rattle.c11t.specs.Answers.{status_of, EndsRun, IsDue, IsPrintedRun, PrintsRun, PrintsRefusal, PrintsPart, Writes};
 ghost use Rattle.c11t.specs.FirstForm.{IsWritten};
 
-use crate::execution::{Head, execution_text};
 use crate::form::{FirstForm, FormStop, read_form};
-use crate::object::Objects;
 use crate::run::make_run;
-use crate::text::Mode;
 use crate::words::Status;
 use c11_events::{FunctionInfo, Verdict};
 use c11_io::{ReadStop, Sink, Source, read_all, write_all};
 use c11_num::{Name, NoMemory};
+use c11_report::{Head, Mode, Objects, Refusal, RefusalWord, execution_text, refusal_text};
 use std::alloc::Global;
 
 /// Executes the program that the source holds, and writes its execution to the sink, or why it is refused.
@@ -140,7 +138,11 @@ fn refusal(alloc: Global) -> Result<Due, DueStop>
     ensures due { IfOk result (λ due. (due.status ≡ Status.Refused) × (due.text.items ≡ refused_bytes)) }
     ensures stop { IfErr result (λ stop. stop ≡ DueStop.NoMemory) }
 {
-    match Vec::from_slice(alloc, b"refused form\n") {
+    let form = Refusal {
+        word: RefusalWord::Form,
+        place: None,
+    };
+    match refusal_text(alloc, &form) {
         Ok(text) => Ok(Due {
             text,
             status: Status::Refused,
@@ -195,4 +197,4 @@ fn main_of(alloc: Global, form: &FirstForm) -> Result<FunctionInfo, NoMemory>
 
 ghost use Rattle.std.specs.Prelude.{◌+◌, length, codes};
 ghost use Rattle.c11t.specs.Answers.{HasDueCause};
-ghost use Rattle.c11t.specs.Texts.{refused_bytes};
+ghost use Rattle.c11t.specs.Answers.{refused_bytes};

@@ -2,16 +2,11 @@
 #![tactic(auto)]
 
 mod command;
-mod execution;
 mod form;
 mod laws;
-mod line;
-mod object;
 mod run;
-mod spelling;
 #[cfg(test)]
 mod tests;
-mod text;
 mod top;
 mod words;
 

@@ -5,7 +5,7 @@ ghost use Rattle.c11_io.specs.Whole.{OneRose};
 ghost use Rattle.c11t.specs.declared.form.Statement.{Statement};
 ghost use Rattle.c11t.specs.Answers.{EndsRun, PrintsCommand, PrintsRefusal, PrintsPartOf, WritesUsage};
 ghost use Rattle.c11t.specs.FirstForm.{IsWritten};
-ghost use Rattle.c11t.specs.Texts.{usage_bytes};
+ghost use Rattle.c11t.specs.Usage.{usage_bytes};
 ghost use Rattle.c11t.specs.Words.{reading};
 
 use crate::command::run_command;

@@ -3,7 +3,6 @@ ghost use Rattle.std.specs.Option.{option_copied};
 ghost use Rattle.c11_events.specs.Events.{IsStore, event_at, loaded_cell};
 
 use super::Happens;
-use crate::kinds;
 use c11_events::{Event, EventKind, Order};
 use c11_num::{CType, CValue, RmwKind};
 use rand_core::utils::NextWord;
@@ -93,7 +92,7 @@ fn is_store(events: &[Event], cell: u32, x: u32) -> bool
     ensures { IsTrue result ↔ IsStore events.now cell x }
 {
     match event_at(events, x) {
-        Some(event) => kinds::stored_cell(&event.kind) == Some(cell),
+        Some(event) => event.kind.stored_cell() == Some(cell),
         None => false,
     }
 }
@@ -110,7 +109,7 @@ impl Happens {
         event.number as usize == place + 1
             && place < self.room as usize
             && event.thread < self.threads
-            && match kinds::loaded_cell(&event.kind) {
+            && match event.kind.loaded_cell() {
                 Some(cell) => is_store(&self.events, cell, event.from),
                 None => true,
             }
@@ -286,12 +285,12 @@ fn releases(events: &[Event], a: usize, mut x: usize) -> bool {
     for _ in 0..events.len() {
         match (events.get(a), events.get(x)) {
             (Some(first), Some(head)) => {
-                let store = a == x && kinds::is_release_store(&first.kind);
-                let fence = kinds::is_release_fence(&first.kind);
+                let store = a == x && first.kind.is_release_store();
+                let fence = first.kind.is_release_fence();
                 if store || fence && a < x && first.thread == head.thread {
                     return true;
                 }
-                if kinds::stored_cell(&head.kind).is_none() || head.from == 0 {
+                if head.kind.stored_cell().is_none() || head.from == 0 {
                     return false;
                 }
                 x = head.from as usize - 1;
@@ -305,9 +304,9 @@ fn releases(events: &[Event], a: usize, mut x: usize) -> bool {
 // Whether b takes over what is released to one of its thread's loads, or to itself.
 fn takes_read(events: &[Event], a: usize, b: &Event) -> bool {
     for load in events.iter() {
-        let own = load.number == b.number && kinds::is_acquire_load(&b.kind);
+        let own = load.number == b.number && b.kind.is_acquire_load();
         let earlier = load.thread == b.thread && load.number < b.number;
-        let fenced = earlier && kinds::is_acquire_fence(&b.kind);
+        let fenced = earlier && b.kind.is_acquire_fence();
         if (own || fenced) && 0 < load.from && releases(events, a, load.from as usize - 1) {
             return true;
         }
@@ -319,8 +318,8 @@ fn takes_read(events: &[Event], a: usize, b: &Event) -> bool {
 fn is_free(events: &[Event], mutex: u32) -> bool {
     let mut owner = None;
     for event in events.iter() {
-        let unlocks = kinds::unlocked_mutex(&event.kind) == Some(mutex);
-        if owner.is_none() && kinds::locked_mutex(&event.kind) == Some(mutex) {
+        let unlocks = event.kind.unlocked_mutex() == Some(mutex);
+        if owner.is_none() && event.kind.locked_mutex() == Some(mutex) {
             owner = Some(event.thread);
         } else if unlocks && owner == Some(event.thread) {
             owner = None;
@@ -333,7 +332,7 @@ fn is_free(events: &[Event], mutex: u32) -> bool {
 fn is_begun_by(creates: &[Event], before: &[Event], b: &Event) -> bool {
     let mut made = 0u32;
     for event in creates.iter() {
-        if kinds::is_create(&event.kind) {
+        if event.kind.is_create() {
             made = made.saturating_add(1);
         }
     }
@@ -352,15 +351,14 @@ fn is_direct(events: &[Event], a: usize, b: usize) -> bool {
         _ => return false,
     };
     let before = events.get(..b).unwrap_or(&[]);
-    let mutex = kinds::unlocked_mutex(&first.kind);
-    let locks = mutex.is_some() && kinds::locked_mutex(&second.kind) == mutex;
-    let ends = kinds::is_end(&first.kind);
+    let mutex = first.kind.unlocked_mutex();
+    let locks = mutex.is_some() && second.kind.locked_mutex() == mutex;
+    let ends = first.kind.is_end();
     first.thread == second.thread
         || takes_read(events, a, second)
         || locks && is_free(before, mutex.unwrap_or(0))
-        || kinds::is_create(&first.kind)
-            && is_begun_by(events.get(..a + 1).unwrap_or(&[]), before, second)
-        || ends && kinds::joined_thread(&second.kind) == Some(first.thread)
+        || first.kind.is_create() && is_begun_by(events.get(..a + 1).unwrap_or(&[]), before, second)
+        || ends && second.kind.joined_thread() == Some(first.thread)
 }
 
 // A number below the choices.
@@ -386,7 +384,7 @@ fn drawn_order(words: &mut Pcg32) -> Order {
 fn drawn_store(words: &mut Pcg32, events: &[Event], cell: u32) -> u32 {
     let mut found = 0;
     for event in events.iter() {
-        let stores = kinds::stored_cell(&event.kind) == Some(cell);
+        let stores = event.kind.stored_cell() == Some(cell);
         if stores && (found == 0 || draw(words, 2) == 0) {
             found = event.number;
         }
@@ -421,7 +419,7 @@ fn last_known(events: &[Event], thread: u32) -> Option<usize> {
         if event.thread == thread {
             last = Some(place);
         }
-        if kinds::is_create(&event.kind) {
+        if event.kind.is_create() {
             made = made.saturating_add(1);
             if made == thread {
                 create = Some(place);

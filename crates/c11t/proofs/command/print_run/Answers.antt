@@ -2,9 +2,9 @@ use Rattle.std.proofs.Common.{◌≡◌, ◌+◌, ◌∷◌, [], List, refl, ◌
 use Rattle.std.specs.Prelude.{codes}
 use Rattle.c11_events.specs.declared.cells.CellInfo.{CellInfo}
 use Rattle.c11_events.specs.declared.cells.FunctionInfo.{FunctionInfo}
-use Rattle.c11t.specs.declared.text.Mode.TheVariants as mode
+use Rattle.c11_report.specs.declared.text.Mode.TheVariants as mode
 use Rattle.c11t.specs.Programs.{cells_of, form_names}
-use Rattle.c11t.specs.Texts.{Names, execution_bytes}
+use Rattle.c11_report.specs.Execution.{Names, execution_bytes}
 use Rattle.c11t.proofs.Sizes.{few_names, short_program}
 use Rattle.c11t.proofs.command.print_run.Goals as goal
 

@@ -4,7 +4,7 @@ use Rattle.c11_io.specs.Whole.{StopsReading}
 use Rattle.c11t.specs.declared.command.Due.{Due}
 use Rattle.c11t.specs.declared.words.Status.TheVariants.{Refused}
 use Rattle.c11t.specs.Answers.{IsDue}
-use Rattle.c11t.specs.Texts.{refused_bytes}
+use Rattle.c11t.specs.Answers.{refused_bytes}
 use Rattle.c11t.proofs.Answering.{good_as, refused_long}
 use Rattle.c11t.proofs.command.text_due.Goals as goal
 

@@ -3,7 +3,7 @@ use Rattle.c11t.specs.declared.command.Due.{Due}
 use Rattle.c11t.specs.declared.form.FormStop.{FormStop}
 use Rattle.c11t.specs.declared.words.Status.TheVariants.{Refused}
 use Rattle.c11t.specs.Answers.{IsDue}
-use Rattle.c11t.specs.Texts.{refused_bytes}
+use Rattle.c11t.specs.Answers.{refused_bytes}
 use Rattle.c11t.proofs.Answering.{good_as}
 use Rattle.c11t.proofs.command.text_due_for.Goals as goal
 

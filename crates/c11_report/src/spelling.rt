@@ -1,5 +1,5 @@
 ghost use Rattle.std.specs.Prelude.{◌≡◌};
-ghost use Rattle.c11t.specs.Texts.{order_bytes, kind_bytes, stop_bytes, fault_bytes};
+ghost use Rattle.c11_report.specs.Execution.{order_bytes, kind_bytes, stop_bytes, fault_bytes};
 
 use c11_events::{FaultKind, Order, StopKind};
 use c11_num::RmwKind;

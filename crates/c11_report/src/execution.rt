@@ -1,5 +1,5 @@
 ghost use Rattle.std.specs.Prelude.{◌≡◌, ◌++◌, ◌∷◌, [], OnOk, IfOk, flat_map};
-ghost use Rattle.c11t.specs.Texts.{mode_bytes, head_bytes, entry_bytes, verdict_bytes, execution_bytes, names_of};
+ghost use Rattle.c11_report.specs.Execution.{mode_bytes, head_bytes, entry_bytes, verdict_bytes, execution_bytes, names_of};
 
 use crate::line::push_entry;
 use crate::object::{Objects, push_cell};

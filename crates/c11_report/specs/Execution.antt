@@ -1,4 +1,4 @@
--- The printed texts, as lists of bytes.
+-- The text of an execution, as a list of bytes.
 use Rattle.std.specs.Prelude.{ℕ, ◌+◌, ◌/◌, ◌%◌, Bool, true, false, List, [], ◌∷◌, ◌++◌, Option, Some, None, flat_map, slice_get, codes, nat_lt, if◌then◌else◌}
 use Rattle.std.specs.Fmt.{decimal, signed_decimal}
 use Rattle.std.specs.Option.{option_map_or}
@@ -19,9 +19,9 @@ use Rattle.c11_events.specs.declared.reply.FaultKind.TheVariants as fault
 use Rattle.c11_events.specs.declared.verdict.Verdict.{Verdict}
 use Rattle.c11_events.specs.declared.verdict.Verdict.TheVariants as verdict
 use Rattle.c11_events.specs.declared.entry.Entry.{Entry}
-use Rattle.c11t.specs.declared.object.Objects.{Objects}
-use Rattle.c11t.specs.declared.text.Mode.{Mode}
-use Rattle.c11t.specs.declared.text.Mode.TheVariants as mode
+use Rattle.c11_report.specs.declared.object.Objects.{Objects}
+use Rattle.c11_report.specs.declared.text.Mode.{Mode}
+use Rattle.c11_report.specs.declared.text.Mode.TheVariants as mode
 
 -- what a text takes from the program: its cells, mutexes and functions by their numbers
 pub record Names : Type 0 where
@@ -174,17 +174,6 @@ head_bytes mode seed bound = codes "c11t 1 " ++ mode_bytes mode ++ codes " seed 
 abbrev pub execution_bytes : Names → Mode → ℕ → ℕ → List Entry → Verdict → List ℕ
 execution_bytes names mode seed bound entries verdict =
     head_bytes mode seed bound ++ flat_map (entry_bytes names) entries ++ codes "verdict " ++ verdict_bytes names verdict ++ 10 ∷ []
-
--- what is written of a text that is no program of the first form
-abbrev pub refused_bytes : List ℕ
-refused_bytes = codes "refused form" ++ 10 ∷ []
-
--- how to call the program
-abbrev pub usage_bytes : List ℕ
-usage_bytes =
-    codes "c11t run [--seed S] [--steps B]" ++ 10 ∷ [] ++ codes "c11t threads [--seed S] [--steps B] [--workers W]" ++ 10 ∷ []
-    ++ codes "c11t campaign [--first S] [--count N] [--steps B] [--workers W]" ++ 10 ∷ []
-    ++ codes "c11t trial [--number N] [--size Z] [--first S] [--count N] [--steps B] [--workers W]" ++ 10 ∷ [] ++ codes "c11t help" ++ 10 ∷ []
 
 -- the objects of a program as lists
 abbrev pub names_of : Objects → Names

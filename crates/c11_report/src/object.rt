@@ -1,5 +1,5 @@
 ghost use Rattle.std.specs.Prelude.{◌≡◌, ◌++◌, OnOk};
-ghost use Rattle.c11t.specs.Texts.{index_bytes, cell_bytes, function_bytes};
+ghost use Rattle.c11_report.specs.Execution.{index_bytes, cell_bytes, function_bytes};
 
 use crate::text::Text;
 use c11_events::{CellInfo, FunctionInfo};

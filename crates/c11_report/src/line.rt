@@ -1,6 +1,6 @@
 ghost use Rattle.std.specs.Prelude.{◌≡◌, ◌++◌, ◌<◌, [], OnOk, flat_map, codes};
 ghost use Rattle.std.specs.Fmt.{decimal, signed_decimal};
-ghost use Rattle.c11t.specs.Texts.{hex_digit, hex_bytes, reply_bytes, began_bytes, access_bytes, op_bytes, told_bytes, read_bytes, entry_bytes, names_of, cell_bytes, order_bytes, exchange_word};
+ghost use Rattle.c11_report.specs.Execution.{hex_digit, hex_bytes, reply_bytes, began_bytes, access_bytes, op_bytes, told_bytes, read_bytes, entry_bytes, names_of, cell_bytes, order_bytes, exchange_word};
 
 use crate::object::{Objects, push_cell, push_function};
 use crate::spelling::{kind_word, order_word, stop_word};
@@ -250,7 +250,7 @@ pub(crate) fn push_entry(text: &mut Text, objects: Objects, entry: &Entry) -> Re
     text.word("\n")
 }
 
-ghost use Rattle.c11t.specs.Texts.{place_bytes};
+ghost use Rattle.c11_report.specs.Execution.{place_bytes};
 
 fn push_place(text: &mut Text, number: u32, thread: u32, line: u32) -> Result<(), NoMemory>
     ensures { OnOk result (text.new ≡ text.old ++ place_bytes number thread line) }
