@@ -36,61 +36,254 @@ fn in_function(alloc: Global, statements: &str) -> Result<String, AllocError> {
     format!(in alloc; "void f(void) {{ {statements} }}")
 }
 
-// Each row has texts of a production, and then one that is none: in most a token is missing.
+/// Whether a text is a program, and is none without this token of it: the fault is then in this column of the first line.
+fn needs(
+    alloc: Global,
+    before: &str,
+    token: &str,
+    after: &str,
+    column: u32,
+) -> Result<bool, AllocError> {
+    let whole = format!(in alloc; "{before}{token}{after}")?;
+    let broken = format!(in alloc; "{before}{after}")?;
+    Ok(is_program(alloc, whole.as_str()) && faults_at(alloc, broken.as_str(), 1, column))
+}
+
+/// The same in a function's block. Without the token the function is no item, and the fault is at its first token.
+fn needs_in_function(
+    alloc: Global,
+    before: &str,
+    token: &str,
+    after: &str,
+) -> Result<bool, AllocError> {
+    let before = format!(in alloc; "void f(void) {{ {before}")?;
+    let after = format!(in alloc; "{after} }}")?;
+    needs(alloc, before.as_str(), token, after.as_str(), 1)
+}
+
+// Each row is a text in three parts, and the part in the middle is one token. A `#define` without its name or its literal
+// has no tokens at all, so its rows are the lexer's.
 #[test]
-fn items_are_read_and_broken_ones_are_not(rt: HostRuntime) -> Result<(), Fail> {
-    let rows: [(&str, &str); 26] = [
-        ("#include <stdio.h>\n", "int"),
-        ("#define A 1\n", "#define int 1\n"),
-        ("int x;", "int ;"),
-        ("static unsigned x;", "static x;"),
-        ("unsigned int x, y;", "unsigned int x y;"),
-        (
-            "long x; long int y; unsigned long z; unsigned long int w;",
-            "int long x;",
-        ),
-        (
-            "atomic_int a; atomic_uint b; atomic_long c; atomic_ulong d;",
-            "atomic_int ;",
-        ),
-        ("_Atomic int a;", "_Atomic a;"),
-        ("_Atomic(unsigned long) a;", "_Atomic(unsigned long a;"),
-        ("int x = 1;", "int x 1;"),
-        ("int x = -1, y = A;", "int x = -;"),
-        ("int x[2];", "int x[];"),
-        ("int x[A] = {1, -2};", "int x[A] = {1 -2};"),
-        ("int x[2] = {1, 2,};", "int x[2] = {};"),
-        (
-            "atomic_int x = ATOMIC_VAR_INIT(-1);",
-            "atomic_int x = ATOMIC_VAR_INIT -1);",
-        ),
-        ("mtx_t m, n[2];", "mtx_t m = 1;"),
-        ("static mtx_t m;", "mtx_t m n[2];"),
-        ("void f() {}", "void f( {}"),
-        ("static int f(void) {}", "static int (void) {}"),
-        ("int f(void *p) {}", "int f(void p) {}"),
-        (
-            "unsigned long f(int a, long b) {}",
-            "unsigned long f(int a long b) {}",
-        ),
-        ("int f(void *p, int a) {}", "int f(void, int a) {}"),
-        (
-            "void f(void) { int a, b[2], c = 1; }",
-            "void f(void) { int a b; }",
-        ),
-        (
-            "void f(void) { thrd_t t, u[4]; }",
-            "void f(void) { thrd_t; }",
-        ),
-        (
-            "void f(void) { unsigned long int a = b = 1; }",
-            "void f(void) { int a[1] = 1; }",
-        ),
-        ("", "}"),
+fn items_need_each_token(rt: HostRuntime) -> Result<(), Fail> {
+    let rows: [(&str, &str, &str, u32); 53] = [
+        ("", "#define", " A 1\n", 2),
+        ("", "int", " x;", 2),
+        ("", "unsigned", " x;", 2),
+        ("", "long", " x;", 2),
+        ("unsigned int ", "x", ";", 1),
+        ("long int ", "x", ";", 1),
+        ("unsigned long ", "x", ";", 1),
+        ("unsigned long int ", "x", ";", 1),
+        ("static ", "int", " x;", 1),
+        ("static int x", ";", "", 1),
+        ("int x", ",", " y;", 1),
+        ("", "atomic_int", " x;", 2),
+        ("", "atomic_uint", " x;", 2),
+        ("", "atomic_long", " x;", 2),
+        ("", "atomic_ulong", " x;", 2),
+        ("_Atomic ", "int", " x;", 1),
+        ("_Atomic ", "(", "unsigned long) x;", 1),
+        ("_Atomic(", "long", ") x;", 1),
+        ("_Atomic(unsigned long", ")", " x;", 1),
+        ("", "mtx_t", " m;", 2),
+        ("static mtx_t m", ";", "", 1),
+        ("mtx_t m", ",", " n[2];", 1),
+        ("mtx_t m ", "[", "2];", 1),
+        ("mtx_t m[", "2", "];", 1),
+        ("mtx_t m[A", "]", ";", 1),
+        ("int x[", "A", "];", 1),
+        ("int x[2", "]", " = {1};", 1),
+        ("int x ", "=", " 1;", 1),
+        ("int x = ", "A", ";", 1),
+        ("int x = -", "1", ";", 1),
+        ("int x[2] = ", "{", "1};", 1),
+        ("int x[2] = {", "1", "};", 1),
+        ("int x[2] = {1", ",", " -2};", 1),
+        ("int x[2] = {1, ", "2", ",};", 1),
+        ("int x[2] = {1,", "}", ";", 1),
+        ("atomic_int x = ", "ATOMIC_VAR_INIT", "(1);", 1),
+        ("atomic_int x = ATOMIC_VAR_INIT ", "(", "-1);", 1),
+        ("atomic_int x = ATOMIC_VAR_INIT(-", "A", ");", 1),
+        ("atomic_int x = ATOMIC_VAR_INIT(1", ")", ";", 1),
+        ("", "void", " f() {}", 2),
+        ("static int ", "f", "(void) {}", 1),
+        ("void f", "(", ") {}", 1),
+        ("void f(", ")", " {}", 1),
+        ("void f(void", ")", " {}", 1),
+        ("unsigned long f(int a", ",", " long b) {}", 1),
+        ("int f(", "int", " a) {}", 1),
+        ("int f(int ", "a", ") {}", 1),
+        ("int f(", "void", " *p) {}", 1),
+        ("int f(void ", "*", "p) {}", 1),
+        ("int f(void *", "p", ") {}", 1),
+        ("int f(void *p, ", "int", " a) {}", 1),
+        ("void f() ", "{", "}", 1),
+        ("void f() {", "}", "", 1),
     ];
-    for (good, bad) in rows {
-        assert!(rt; is_program(rt.alloc(), good), "{good}");
-        assert!(rt; faults_at(rt.alloc(), bad, 1, 1), "{bad}");
+    for (before, token, after, column) in rows {
+        assert!(rt;
+            needs(rt.alloc(), before, token, after, column)?,
+            "{before}{token}{after}"
+        );
+    }
+    Ok(())
+}
+
+#[test]
+fn statements_need_each_token(rt: HostRuntime) -> Result<(), Fail> {
+    let rows: [(&str, &str, &str); 47] = [
+        ("{ ;", "}", ""),
+        ("int ", "a", ";"),
+        ("int a", ",", " b[2], c = 1;"),
+        ("int a", ";", ""),
+        ("unsigned long int a ", "[", "1];"),
+        ("int a[", "1", "];"),
+        ("int a[A", "]", ";"),
+        ("int a ", "=", " 1;"),
+        ("int a = ", "1", ";"),
+        ("thrd_t ", "t", ";"),
+        ("thrd_t t", ",", " u[4];"),
+        ("thrd_t t[", "4", "];"),
+        ("thrd_t t", ";", ""),
+        ("x", ";", ""),
+        ("if ", "(", "x) ;"),
+        ("if (", "x", ") ;"),
+        ("if (x", ")", " ;"),
+        ("if (x) ", ";", " else ;"),
+        ("if (x) ; else ", "if", " (y) ; else ;"),
+        ("if (x) ; else if ", "(", "y) ;"),
+        ("if (x) ; else if (", "y", ") ;"),
+        ("if (x) ; else if (y", ")", " ;"),
+        ("if (x) ; else if (y) ", ";", " else ;"),
+        ("if (x) ; else ", ";", ""),
+        ("while ", "(", "x) ;"),
+        ("while (", "x", ") ;"),
+        ("while (x", ")", " ;"),
+        ("while (x) ", ";", ""),
+        ("do ", ";", " while (x);"),
+        ("do ; ", "while", " (x);"),
+        ("do ; while ", "(", "x);"),
+        ("do ; while (", "x", ");"),
+        ("do ; while (x", ")", ";"),
+        ("do ; while (x)", ";", ""),
+        ("", "for", " (;;) ;"),
+        ("for ", "(", ";;) ;"),
+        ("for (;", ";", ") ;"),
+        ("for (;;", ")", " ;"),
+        ("for (;;) ", ";", ""),
+        ("for (i = 0", ";", " i < 1; i++) ;"),
+        ("for (i = 0; i < 1", ";", " i++) ;"),
+        ("for (int i = 0", ";", " i < 1; ++i) ;"),
+        ("for (thrd_t t; ", ";", ") ;"),
+        ("break", ";", ""),
+        ("continue", ";", ""),
+        ("return", ";", ""),
+        ("return 1", ";", ""),
+    ];
+    for (before, token, after) in rows {
+        assert!(rt;
+            needs_in_function(rt.alloc(), before, token, after)?,
+            "{before}{token}{after}"
+        );
+    }
+    Ok(())
+}
+
+#[test]
+fn expressions_need_each_token(rt: HostRuntime) -> Result<(), Fail> {
+    let rows: [(&str, &str, &str); 43] = [
+        ("", "x", " = 1;"),
+        ("x = y ", "=", " z;"),
+        ("", "x", " ? y : z;"),
+        ("x ", "?", " y : z;"),
+        ("x ? ", "y", " : z;"),
+        ("x ? y ", ":", " z;"),
+        ("x ? y : ", "z", ";"),
+        ("x ? y : z ? v ", ":", " w;"),
+        ("-", "x", ";"),
+        ("+", "x", ";"),
+        ("!", "x", ";"),
+        ("~", "x", ";"),
+        ("++", "x", ";"),
+        ("--", "x", "[1];"),
+        ("", "(", "int) x;"),
+        ("(", "int", ") x;"),
+        ("(unsigned long", ")", " -x;"),
+        ("(int) ", "x", ";"),
+        ("(void", ")", " x;"),
+        ("(void) ", "x", ";"),
+        ("(void *", ")", " x;"),
+        ("(void *) ", "x", ";"),
+        ("", "x", "++;"),
+        ("", "x", "--;"),
+        ("", "f", "();"),
+        ("f", "(", ");"),
+        ("f(", ")", ";"),
+        ("f(", "x", ", y);"),
+        ("f(x", ",", " y);"),
+        ("f(x, ", "y", ");"),
+        ("f(x", ")", ";"),
+        ("f(&", "x", ");"),
+        ("f(&x[", "1", "]);"),
+        ("f(", "\"a\"", ", x = y);"),
+        ("f(\"a\"", ",", " x);"),
+        ("", "(", "x);"),
+        ("(", "1", ");"),
+        ("(x", ")", ";"),
+        ("", "x", "[1];"),
+        ("x ", "[", "1];"),
+        ("x[", "1", "];"),
+        ("x[y[1", "]", "];"),
+        ("a+++", "b", ";"),
+    ];
+    for (before, token, after) in rows {
+        assert!(rt;
+            needs_in_function(rt.alloc(), before, token, after)?,
+            "{before}{token}{after}"
+        );
+    }
+    let operators: [&str; 29] = [
+        "=", "+=", "-=", "*=", "/=", "%=", "&=", "^=", "|=", "<<=", ">>=", "||", "&&", "|", "^",
+        "&", "==", "!=", "<", ">", "<=", ">=", "<<", ">>", "+", "-", "*", "/", "%",
+    ];
+    for operator in operators {
+        assert!(rt;
+            needs_in_function(rt.alloc(), "x ", operator, " y;")?,
+            "{operator}"
+        );
+        let before = format!(in rt.alloc(); "x {operator} ")?;
+        assert!(rt;
+            needs_in_function(rt.alloc(), before.as_str(), "y", ";")?,
+            "{operator}"
+        );
+    }
+    Ok(())
+}
+
+// Further texts that are programs, and texts that no missing token explains.
+#[test]
+fn items_are_read_and_others_are_not(rt: HostRuntime) -> Result<(), Fail> {
+    let programs: [&str; 6] = [
+        "",
+        "#include <stdio.h>\n",
+        "int x = -1, y = A;",
+        "int x[A] = {1, -2,};",
+        "long x; static long int y; unsigned long z; unsigned w, v;",
+        "void f(void) { int a, b[2], c = a = 1; } int g(void *p, int a) {}",
+    ];
+    for text in programs {
+        assert!(rt; is_program(rt.alloc(), text), "{text}");
+    }
+    let others: [&str; 6] = [
+        "}",
+        "int",
+        "#define int 1\n",
+        "int long x;",
+        "mtx_t m = 1;",
+        "int f(void, int a) {}",
+    ];
+    for text in others {
+        assert!(rt; faults_at(rt.alloc(), text, 1, 1), "{text}");
     }
     // Words of the keyword list, and those that the language reserves, are no names.
     let reserved: [&str; 8] = [
@@ -111,57 +304,40 @@ fn items_are_read_and_broken_ones_are_not(rt: HostRuntime) -> Result<(), Fail> {
 }
 
 #[test]
-fn statements_are_read_and_broken_ones_are_not(rt: HostRuntime) -> Result<(), Fail> {
-    let rows: [(&str, &str); 40] = [
-        (";", "{"),
-        ("{ ; }", "{ ;"),
-        ("x;", "x"),
-        ("if (x) ;", "if x) ;"),
-        ("if (x) ; else if (y) ; else ;", "if (x) ; else else ;"),
-        ("while (x) ;", "while () ;"),
-        ("do ; while (x);", "do ; while (x)"),
-        ("for (;;) ;", "for (;) ;"),
-        ("for (i = 0; i < 1; i++) ;", "for (i = 0; i < 1 i++) ;"),
-        (
-            "for (int i = 0; i < 1; ++i) ;",
-            "for (int i = 0 i < 1; ++i) ;",
-        ),
-        ("for (thrd_t t; ; ) ;", "for (thrd_t t ; ) ;"),
-        ("break;", "break"),
-        ("continue;", "continue"),
-        ("return; return 1;", "return 1"),
-        ("x = 1;", "x = ;"),
-        ("x[1] += y; x -= 1; x *= 1; x /= 1; x %= 1;", "x[1 += y;"),
-        ("x <<= 1; x >>= 1; x &= 1; x ^= 1; x |= 1;", "1 <<= x;"),
-        ("x ? y : z;", "x ? y z;"),
-        ("x || y && z;", "x || ;"),
-        ("x | y ^ z & w;", "x | ^ y;"),
-        ("x == y != z;", "x == ;"),
-        ("x < y > z <= v >= w;", "x < ;"),
-        ("x << y >> z;", "x << ;"),
-        ("x + y - z;", "x + ;"),
-        ("x * y / z % w;", "x * ;"),
-        ("-x; +x; !x; ~x;", "- ;"),
-        ("++x; --x[1];", "++1;"),
-        ("x++; x[1]--;", "1++;"),
-        ("(int) x;", "(int) ;"),
-        ("(unsigned long) -x; (void) x; (void *) x;", "(void *x;"),
-        ("f(); f(x); f(x, y);", "f(x y);"),
-        ("f(&x, &x[1], \"a\", x = y);", "f(& , x);"),
-        ("1; 0x1F; 010u;", "1 1;"),
-        ("(x);", "(x;"),
-        ("x[y[1]];", "x[];"),
-        ("a+++b;", "a+++;"),
-        ("if (x) if (y) ; else ;", "else ;"),
-        ("int a; a = 1; int b;", "if (x) int a;"),
-        ("x = y = z;", "x = y = ;"),
-        ("a ? b : c ? d : e;", "a ? b : c = d;"),
+fn statements_are_read_and_others_are_not(rt: HostRuntime) -> Result<(), Fail> {
+    let blocks: [&str; 13] = [
+        "",
+        ";",
+        "if (x) if (y) ; else ;",
+        "int a; a = 1; int b;",
+        "1; 0x1F; 010u;",
+        "x[1] ++; x[1]--;",
+        "x | y ^ z & w;",
+        "x == y != z;",
+        "x < y > z <= v >= w;",
+        "x << y >> z;",
+        "x + y - z;",
+        "x * y / z % w;",
+        "x || y && z;",
     ];
-    for (good, bad) in rows {
-        let text = in_function(rt.alloc(), good)?;
-        assert!(rt; is_program(rt.alloc(), text.as_str()), "{good}");
-        let text = in_function(rt.alloc(), bad)?;
-        assert!(rt; faults_at(rt.alloc(), text.as_str(), 1, 1), "{bad}");
+    for statements in blocks {
+        let text = in_function(rt.alloc(), statements)?;
+        assert!(rt; is_program(rt.alloc(), text.as_str()), "{statements}");
+    }
+    let others: [&str; 9] = [
+        "{",
+        "else ;",
+        "if (x) ; else else ;",
+        "if (x) int a;",
+        "int a[1] = 1;",
+        "1 <<= x;",
+        "++1;",
+        "1++;",
+        "a ? b : c = d;",
+    ];
+    for statements in others {
+        let text = in_function(rt.alloc(), statements)?;
+        assert!(rt; faults_at(rt.alloc(), text.as_str(), 1, 1), "{statements}");
     }
     // The place is that of the first token after the longest run of whole items.
     let places: [(&str, u32, u32); 5] = [
