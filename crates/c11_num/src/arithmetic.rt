@@ -39,7 +39,7 @@ pub fn negate(a: CValue) -> Result<CValue, NumFault>
 }
 
 // Whether the type is signed.
-fn is_signed(ctype: CType) -> bool
+pub(crate) fn is_signed(ctype: CType) -> bool
     ensures { result ≡ spec.is_signed ctype }
 {
     match ctype {

@@ -5,10 +5,13 @@
 #![tactic(auto)]
 
 mod arithmetic;
+mod exact;
 mod fault;
 mod kind;
 mod memory;
 mod modular;
+mod operator;
+mod shift;
 #[cfg(test)]
 mod tests;
 mod text;
@@ -19,5 +22,6 @@ pub use fault::NumFault;
 pub use kind::{BinaryOp, RmwKind};
 pub use memory::NoMemory;
 pub use modular::{convert, wrapping};
+pub use operator::binary;
 pub use text::{Bytes, Name};
 pub use value::{CType, CValue, in_range};

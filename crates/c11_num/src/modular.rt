@@ -37,7 +37,7 @@ pub fn wrapping(kind: RmwKind, old: CValue, operand: CValue) -> CValue
 }
 
 // Two to the width of the type.
-fn modulus(ctype: CType) -> u128
+pub(crate) fn modulus(ctype: CType) -> u128
     ensures { result ≡ 2 ^ width_of ctype }
 {
     match ctype {
@@ -47,7 +47,7 @@ fn modulus(ctype: CType) -> u128
 }
 
 // The bits of the number in the type.
-fn bits_of(ctype: CType, number: i128) -> u128
+pub(crate) fn bits_of(ctype: CType, number: i128) -> u128
     ensures bits { result ≡ spec.bits_of ctype number }
     ensures bound { result < 2 ^ width_of ctype }
 {
@@ -55,7 +55,7 @@ fn bits_of(ctype: CType, number: i128) -> u128
 }
 
 // The value of the type with these bits.
-fn of_bits(ctype: CType, bits: u128) -> CValue
+pub(crate) fn of_bits(ctype: CType, bits: u128) -> CValue
     requires { bits < 2 ^ width_of ctype }
     ensures ctype { result.ctype ≡ ctype }
     ensures number { result.number ≡ spec.of_bits ctype bits }

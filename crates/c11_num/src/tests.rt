@@ -1,6 +1,9 @@
+use crate::BinaryOp::{Add, And, Div, Eq, Ge, Gt, Le, Lt, Mul, Ne, Or, Rem, Shl, Shr, Sub, Xor};
+use crate::CType::{Int, Long, ULong, Unsigned};
+use crate::NumFault::{Divide, Overflow, Shift};
 use crate::{
-    Bytes, CType, CValue, Name, NoMemory, NumFault, RmwKind, convert, in_range, negate, usual,
-    wrapping,
+    BinaryOp, Bytes, CType, CValue, Name, NoMemory, NumFault, RmwKind, binary, convert, in_range,
+    negate, usual, wrapping,
 };
 use std::alloc::AllocError;
 use std::test::Fail;
@@ -97,6 +100,238 @@ fn minus_overflows_where_its_type_is_signed(rt: HostRuntime) {
     assert!(rt; usual(CType::Unsigned, CType::Int) == CType::Unsigned);
     assert!(rt; usual(CType::Unsigned, CType::Long) == CType::Long);
     assert!(rt; usual(CType::ULong, CType::Long) == CType::ULong);
+}
+
+const INT_MIN: i128 = -2_147_483_648;
+
+const INT_MAX: i128 = 2_147_483_647;
+
+const UINT_MAX: i128 = 4_294_967_295;
+
+const LONG_MIN: i128 = -9_223_372_036_854_775_808;
+
+const LONG_MAX: i128 = 9_223_372_036_854_775_807;
+
+const ULONG_MAX: i128 = 18_446_744_073_709_551_615;
+
+/// A value, or none where the type does not hold the number.
+fn value((ctype, number): (CType, i128)) -> Option<CValue> {
+    if in_range(ctype, number) {
+        Some(CValue::new(ctype, number))
+    } else {
+        None
+    }
+}
+
+fn gives(op: BinaryOp, a: (CType, i128), b: (CType, i128), known: (CType, i128)) -> bool {
+    match (value(a), value(b), value(known)) {
+        (Some(left), Some(right), Some(known)) => binary(op, left, right) == Ok(known),
+        _ => false,
+    }
+}
+
+fn refuses(op: BinaryOp, a: (CType, i128), b: (CType, i128), fault: NumFault) -> bool {
+    match (value(a), value(b)) {
+        (Some(left), Some(right)) => binary(op, left, right) == Err(fault),
+        _ => false,
+    }
+}
+
+// The tables of operators have the results of a C compiler, but for remainders by -1, which are the exact ones.
+#[test]
+fn products_are_those_of_the_common_type(rt: HostRuntime) {
+    let rows: [(BinaryOp, (CType, i128), (CType, i128), (CType, i128)); 7] = [
+        (Mul, (Int, 46_340), (Int, 46_340), (Int, 2_147_395_600)),
+        (Mul, (Int, -65_536), (Int, 32_768), (Int, INT_MIN)),
+        (Mul, (Unsigned, 65_536), (Unsigned, 65_536), (Unsigned, 0)),
+        (Mul, (Unsigned, UINT_MAX), (Int, -1), (Unsigned, 1)),
+        (
+            Mul,
+            (Int, -1),
+            (Long, LONG_MAX),
+            (Long, -9_223_372_036_854_775_807),
+        ),
+        (
+            Mul,
+            (Long, 3_037_000_499),
+            (Long, 3_037_000_499),
+            (Long, 9_223_372_030_926_249_001),
+        ),
+        (Mul, (ULong, ULONG_MAX), (ULong, ULONG_MAX), (ULong, 1)),
+    ];
+    for (op, a, b, known) in rows {
+        assert!(rt; gives(op, a, b, known), "{op:?} {a:?} {b:?}");
+    }
+}
+
+#[test]
+fn quotients_round_toward_zero(rt: HostRuntime) {
+    let rows: [(BinaryOp, (CType, i128), (CType, i128), (CType, i128)); 11] = [
+        (Div, (Int, -7), (Int, 2), (Int, -3)),
+        (Div, (Int, 7), (Int, -2), (Int, -3)),
+        (Div, (Int, -1), (Unsigned, 2), (Unsigned, INT_MAX)),
+        (Div, (Int, INT_MIN), (Long, -1), (Long, 2_147_483_648)),
+        (
+            Div,
+            (Long, LONG_MIN),
+            (Int, 2),
+            (Long, -4_611_686_018_427_387_904),
+        ),
+        (Div, (ULong, ULONG_MAX), (Int, -1), (ULong, 1)),
+        (Rem, (Int, -7), (Int, 2), (Int, -1)),
+        (Rem, (Int, 7), (Int, -2), (Int, 1)),
+        (Rem, (Int, INT_MIN), (Int, -1), (Int, 0)),
+        (Rem, (Long, LONG_MIN), (Int, -1), (Long, 0)),
+        (Rem, (ULong, ULONG_MAX), (Unsigned, 10), (ULong, 5)),
+    ];
+    for (op, a, b, known) in rows {
+        assert!(rt; gives(op, a, b, known), "{op:?} {a:?} {b:?}");
+    }
+}
+
+#[test]
+fn sums_are_those_of_the_common_type(rt: HostRuntime) {
+    let rows: [(BinaryOp, (CType, i128), (CType, i128), (CType, i128)); 9] = [
+        (Add, (Int, -1), (Unsigned, 0), (Unsigned, UINT_MAX)),
+        (Add, (Unsigned, UINT_MAX), (Int, 1), (Unsigned, 0)),
+        (Add, (Unsigned, UINT_MAX), (Long, 1), (Long, 4_294_967_296)),
+        (Add, (Int, INT_MAX), (Long, 1), (Long, 2_147_483_648)),
+        (
+            Add,
+            (ULong, ULONG_MAX),
+            (ULong, ULONG_MAX),
+            (ULong, 18_446_744_073_709_551_614),
+        ),
+        (Sub, (Int, -1), (Int, INT_MAX), (Int, INT_MIN)),
+        (Sub, (Unsigned, 0), (Unsigned, 1), (Unsigned, UINT_MAX)),
+        (Sub, (Long, LONG_MIN), (Long, LONG_MIN), (Long, 0)),
+        (Sub, (ULong, 0), (Int, 1), (ULong, ULONG_MAX)),
+    ];
+    for (op, a, b, known) in rows {
+        assert!(rt; gives(op, a, b, known), "{op:?} {a:?} {b:?}");
+    }
+}
+
+#[test]
+fn shifts_have_the_type_of_the_left_operand(rt: HostRuntime) {
+    let rows: [(BinaryOp, (CType, i128), (CType, i128), (CType, i128)); 11] = [
+        (Shl, (Int, 1), (Int, 30), (Int, 1_073_741_824)),
+        (Shl, (Int, 3), (ULong, 29), (Int, 1_610_612_736)),
+        (Shl, (Unsigned, 1), (Int, 31), (Unsigned, 2_147_483_648)),
+        (
+            Shl,
+            (Unsigned, UINT_MAX),
+            (Long, 4),
+            (Unsigned, 4_294_967_280),
+        ),
+        (
+            Shl,
+            (Long, 1),
+            (Unsigned, 62),
+            (Long, 4_611_686_018_427_387_904),
+        ),
+        (
+            Shl,
+            (ULong, ULONG_MAX),
+            (Int, 63),
+            (ULong, 9_223_372_036_854_775_808),
+        ),
+        (Shr, (Int, -5), (Int, 1), (Int, -3)),
+        (Shr, (Int, INT_MIN), (Long, 31), (Int, -1)),
+        (Shr, (Unsigned, UINT_MAX), (Int, 31), (Unsigned, 1)),
+        (Shr, (Long, LONG_MIN), (Int, 63), (Long, -1)),
+        (Shr, (ULong, ULONG_MAX), (Int, 63), (ULong, 1)),
+    ];
+    for (op, a, b, known) in rows {
+        assert!(rt; gives(op, a, b, known), "{op:?} {a:?} {b:?}");
+    }
+}
+
+#[test]
+fn comparisons_are_made_in_the_common_type(rt: HostRuntime) {
+    let rows: [(BinaryOp, (CType, i128), (CType, i128), (CType, i128)); 13] = [
+        (Lt, (Int, -1), (Int, 0), (Int, 1)),
+        (Lt, (Int, -1), (Unsigned, 0), (Int, 0)),
+        (Lt, (Int, -1), (Long, 0), (Int, 1)),
+        (Gt, (Int, -1), (Unsigned, 1), (Int, 1)),
+        (Gt, (Unsigned, UINT_MAX), (Long, LONG_MAX), (Int, 0)),
+        (Le, (Long, LONG_MIN), (Int, INT_MIN), (Int, 1)),
+        (Le, (Unsigned, 1), (Int, 1), (Int, 1)),
+        (Ge, (ULong, 0), (Int, -1), (Int, 0)),
+        (Ge, (Int, INT_MAX), (Int, INT_MIN), (Int, 1)),
+        (Eq, (Int, -1), (Unsigned, UINT_MAX), (Int, 1)),
+        (Eq, (Int, -1), (Long, UINT_MAX), (Int, 0)),
+        (Ne, (Int, -1), (ULong, ULONG_MAX), (Int, 0)),
+        (Ne, (Int, 0), (Long, 4_294_967_296), (Int, 1)),
+    ];
+    for (op, a, b, known) in rows {
+        assert!(rt; gives(op, a, b, known), "{op:?} {a:?} {b:?}");
+    }
+}
+
+#[test]
+fn bits_are_those_of_the_common_type(rt: HostRuntime) {
+    let rows: [(BinaryOp, (CType, i128), (CType, i128), (CType, i128)); 7] = [
+        (And, (Int, -4), (Int, 6), (Int, 4)),
+        (And, (Int, -1), (Unsigned, 5), (Unsigned, 5)),
+        (And, (Int, -1), (Long, LONG_MAX), (Long, LONG_MAX)),
+        (Xor, (Int, -1), (Int, INT_MAX), (Int, INT_MIN)),
+        (Xor, (Long, -1), (Int, 5), (Long, -6)),
+        (Or, (Int, INT_MIN), (Int, 1), (Int, -2_147_483_647)),
+        (
+            Or,
+            (Int, -8),
+            (ULong, 5),
+            (ULong, 18_446_744_073_709_551_613),
+        ),
+    ];
+    for (op, a, b, known) in rows {
+        assert!(rt; gives(op, a, b, known), "{op:?} {a:?} {b:?}");
+    }
+}
+
+#[test]
+fn arithmetic_without_a_result_is_refused(rt: HostRuntime) {
+    let rows: [(BinaryOp, (CType, i128), (CType, i128), NumFault); 15] = [
+        (Mul, (Int, 46_341), (Int, 46_341), Overflow),
+        (Mul, (Int, INT_MIN), (Int, -1), Overflow),
+        (Mul, (Long, 3_037_000_500), (Long, 3_037_000_500), Overflow),
+        (Mul, (Long, LONG_MIN), (Long, LONG_MIN), Overflow),
+        (Div, (Int, INT_MIN), (Int, -1), Overflow),
+        (Div, (Long, LONG_MIN), (Int, -1), Overflow),
+        (Div, (Int, INT_MIN), (Int, 0), Divide),
+        (Div, (ULong, 1), (Int, 0), Divide),
+        (Rem, (Long, 5), (Int, 0), Divide),
+        (Rem, (Unsigned, 0), (Unsigned, 0), Divide),
+        (Add, (Int, INT_MAX), (Int, 1), Overflow),
+        (Add, (Int, INT_MIN), (Int, -1), Overflow),
+        (Add, (Long, LONG_MAX), (Unsigned, 1), Overflow),
+        (Sub, (Int, 0), (Int, INT_MIN), Overflow),
+        (Sub, (Long, LONG_MIN), (Int, 1), Overflow),
+    ];
+    for (op, a, b, fault) in rows {
+        assert!(rt; refuses(op, a, b, fault), "{op:?} {a:?} {b:?}");
+    }
+}
+
+#[test]
+fn shifts_without_a_result_are_refused(rt: HostRuntime) {
+    let rows: [(BinaryOp, (CType, i128), (CType, i128), NumFault); 11] = [
+        (Shl, (Int, 1), (Int, 31), Overflow),
+        (Shl, (Int, -1), (Int, 0), Overflow),
+        (Shl, (Int, -1), (Int, 32), Shift),
+        (Shl, (Int, 1), (Long, 32), Shift),
+        (Shl, (Long, 1), (Int, 63), Overflow),
+        (Shl, (Long, 1), (Int, 64), Shift),
+        (Shl, (Unsigned, 1), (Int, -1), Shift),
+        (Shl, (ULong, 1), (Int, 64), Shift),
+        (Shr, (Int, 1), (Int, 32), Shift),
+        (Shr, (Long, -1), (Long, LONG_MIN), Shift),
+        (Shr, (Unsigned, 1), (ULong, ULONG_MAX), Shift),
+    ];
+    for (op, a, b, fault) in rows {
+        assert!(rt; refuses(op, a, b, fault), "{op:?} {a:?} {b:?}");
+    }
 }
 
 #[test]
