@@ -2,6 +2,7 @@ ghost use Rattle.std.specs.Prelude.{◌≡◌, ◌↔◌, IsTrue, IfOk, IfErr, t
 ghost use Rattle.c11_num.specs.Ranges.{IsInRange};
 ghost use Rattle.c11_num.specs.Wrapping as modular;
 ghost use Rattle.c11_num.specs.Arithmetic as spec;
+ghost use Rattle.c11_num.specs.Operators as operators;
 ghost use Rattle.c11_num.specs.Arithmetic.{Overflows};
 
 use crate::fault::NumFault;
@@ -24,7 +25,9 @@ pub fn usual(a: CType, b: CType) -> CType
 /// Unary minus in the type of the value (ISO/IEC 9899:2011, 6.5.3.3). In an unsigned type the result is modulo two to the width.
 ///
 /// `Overflow` exactly where the type is signed and does not hold the result; there is no other fault.
+#[tactic(auto, unfolding(crate::specs::Operators::exact))]
 pub fn negate(a: CValue) -> Result<CValue, NumFault>
+    ensures outcome { result ≡ operators.exact a.ctype (neg_ℤ a.number) }
     ensures value { IfOk result (λ value. value ≡ modular.wrapped a.ctype (neg_ℤ a.number)) }
     ensures exact { IfOk result (λ value. IsInRange a.ctype (neg_ℤ a.number) → value.number ≡ neg_ℤ a.number) }
     ensures held { IfOk result (λ _. Overflows a.ctype (neg_ℤ a.number) → ⊥) }
