@@ -1,0 +1,10 @@
+pub mod Library
+pub mod Scopes
+pub mod Types
+pub mod Formats
+pub mod Faults
+pub mod Expressions
+pub mod Statements
+pub mod Programs
+pub mod Table
+pub mod Bound

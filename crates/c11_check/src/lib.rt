@@ -1,0 +1,21 @@
+//! The checks of the tested programs: the first of all faults, or the tables of what is declared (ISO/IEC 9899:2011, 6.2 to
+//! 6.9, 7.2, 7.17, 7.21 and 7.26).
+//!
+//! The definitions stand in `specs/`: `Scopes` says what names denote, `Library` what the names of the library are, `Types` the
+//! types of expressions, `Faults` the faults, one short clause for each, and `Expressions`, `Statements` and `Programs` where
+//! in a tree each may stand.
+#![tactic(auto)]
+
+mod around;
+mod entity;
+mod fault;
+mod form;
+mod last;
+mod library;
+mod scopes;
+
+pub use around::Around;
+pub use entity::{Counts, Entity, Signature};
+pub use fault::{Fault, Rule};
+pub use form::Form;
+pub use library::{Library, LibraryConstant, Want, library_entity};

@@ -1,0 +1,146 @@
+ghost use Rattle.std.specs.Prelude.{◌≡◌, ◌<◌, ◌-◌, length, take, OnOk, OnErr};
+ghost use Rattle.c11_check.specs.Scopes as spec;
+
+use crate::entity::{Counts, Entity};
+use crate::last::Last;
+use crate::library::library_entity;
+use c11_num::NoMemory;
+use std::alloc::Global;
+use std::marker::Model;
+
+/// A declared name.
+#[derive(Drop)]
+struct Binding<'a> {
+    name: &'a [u8],
+    entity: Entity,
+    /// Where the name was declared last before this, if that was still in force.
+    hides: Option<usize>,
+}
+
+/// The names in force at a place of a program. Contracts see what is declared, and where the innermost scope begins.
+#[derive(Drop)]
+pub(crate) struct Scopes<'a> {
+    bindings: Vec<Binding<'a>>,
+    last: Last<'a>,
+    start: usize,
+    counts: Counts,
+}
+
+impl<'a> Model for Scopes<'a> {
+    ghost use Rattle.std.specs.Prelude.{List, ℕ, ◌≡◌, map};
+    ghost use Rattle.c11_check.specs.Scopes.{Scope, Named};
+    ghost use Rattle.c11_check.specs.Table.{place_at, last_place};
+    ghost use Rattle.c11_check.specs.Bound.{names_of, AreLinked};
+
+    ghost Value = { Scope };
+
+    ghost view = { λ s. record { names = names_of s.bindings.items; start = s.start; counts = s.counts } };
+
+    ghost invariant = { λ s. ((name : List ℕ) → place_at name s.last ≡ last_place 0 (names_of s.bindings.items) name) × AreLinked s.bindings.items };
+}
+
+impl<'a> Scopes<'a> {
+    /// The scope at the beginning of a program.
+    pub(crate) fn new(alloc: Global) -> Scopes<'a>
+        ensures { result ≡ spec.file_scope }
+    {
+        Scopes {
+            bindings: Vec::new(alloc),
+            last: Last::new(alloc),
+            start: 0,
+            counts: Counts {
+                atomics: 0,
+                plains: 0,
+                mutexes: 0,
+                functions: 0,
+                places: 0,
+            },
+        }
+    }
+
+    /// What the name denotes.
+    pub(crate) fn denoted(&self, name: &[u8]) -> Option<Entity>
+        ensures { result ≡ spec.denoted self.now name.now }
+    {
+        match self.last.place(name) {
+            Some(place) => Some(self.bindings[place].entity),
+            None => library_entity(name),
+        }
+    }
+
+    /// Whether the innermost scope declares the name.
+    pub(crate) fn is_declared_here(&self, name: &[u8]) -> bool
+        ensures { result ≡ spec.is_declared_here self.now name.now }
+    {
+        match self.last.place(name) {
+            Some(place) => self.start <= place,
+            None => false,
+        }
+    }
+
+    /// How much has been declared.
+    pub(crate) fn counts(&self) -> Counts
+        ensures { result ≡ self.now.counts }
+    {
+        self.counts
+    }
+
+    /// Declares the name in the innermost scope. After an error the scopes are as before.
+    pub(crate) fn declare(
+        &mut self,
+        name: &'a [u8],
+        entity: Entity,
+        counts: Counts,
+    ) -> Result<(), NoMemory>
+        ensures declared { OnOk result (self.new ≡ spec.declared self.old name.now entity counts) }
+        ensures unchanged { OnErr result (self.new ≡ self.old) }
+    {
+        let place = self.bindings.len();
+        let hides = self.last.place(name);
+        let binding = Binding {
+            name,
+            entity,
+            hides,
+        };
+        if self.bindings.push(binding).is_err() {
+            return Err(NoMemory);
+        }
+        if self.last.set(name, Some(place)).is_err() {
+            self.bindings.truncate(place);
+            return Err(NoMemory);
+        }
+        self.counts = counts;
+        Ok(())
+    }
+
+    /// Begins a scope. The answer is where the scope around it began.
+    pub(crate) fn enter(&mut self) -> usize
+        ensures entered { self.new ≡ spec.entered self.old }
+        ensures outer { result ≡ self.old.start }
+    {
+        let outer = self.start;
+        self.start = self.bindings.len();
+        outer
+    }
+
+    /// Ends the innermost scope; the one around it began at `outer`.
+    pub(crate) fn leave(&mut self, outer: usize)
+        ensures { self.new ≡ record { names = take self.old.start self.old.names; start = outer; counts = self.old.counts } }
+    {
+        while self.start < self.bindings.len() {
+            self.forget_last();
+        }
+        self.start = outer;
+    }
+
+    // Forgets the name that was declared last.
+    fn forget_last(&mut self)
+        requires { 0 < length self.old.names }
+        ensures { self.new ≡ record { names = take (length self.old.names - 1) self.old.names; start = self.old.start; counts = self.old.counts } }
+    {
+        if let Some(binding) = self.bindings.pop() {
+            // The name has an entry, so this takes no memory.
+            let _ = self.last.set(binding.name, binding.hides);
+        }
+    }
+}
