@@ -8,3 +8,4 @@ pub mod Statements
 pub mod Programs
 pub mod Table
 pub mod Bound
+pub mod Chains

@@ -6,10 +6,15 @@
 //! in a tree each may stand.
 #![tactic(auto)]
 
+mod arguments;
 mod around;
 mod entity;
+mod expressions;
 mod fault;
+mod first;
 mod form;
+mod format;
+mod kinds;
 mod last;
 mod library;
 mod scopes;
@@ -18,4 +23,5 @@ pub use around::Around;
 pub use entity::{Counts, Entity, Signature};
 pub use fault::{Fault, Rule};
 pub use form::Form;
+pub use format::{Within, format_step, values_of_format};
 pub use library::{Library, LibraryConstant, Want, library_entity};

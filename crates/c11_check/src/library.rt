@@ -1,6 +1,7 @@
 //! The names of the library.
 
-ghost use Rattle.std.specs.Prelude.{◌≡◌};
+ghost use Rattle.std.specs.Prelude.{◌≡◌, is_some};
+ghost use Rattle.c11_num.specs.declared.value.CType.{CType};
 ghost use Rattle.c11_check.specs.Library as spec;
 
 use crate::entity::Entity;
@@ -269,5 +270,64 @@ fn orders(name: &[u8]) -> Option<Entity>
         Some(Entity::Order(Order::SeqCst))
     } else {
         None
+    }
+}
+
+impl Library {
+    /// What the function wants as its arguments; behind a format come the values that it asks for.
+    pub fn wants(self) -> &'static [Want]
+        ensures { result.now ≡ spec.wants_of self }
+    {
+        match self {
+            Library::Load { explicit: false } => &[Want::Atomic],
+            Library::Load { explicit: true } => &[Want::Atomic, Want::Order(OrderUse::Load)],
+            Library::Store { explicit: false } => &[Want::Atomic, Want::Value],
+            Library::Store { explicit: true } => {
+                &[Want::Atomic, Want::Value, Want::Order(OrderUse::Store)]
+            }
+            Library::ReadWrite {
+                explicit: false,
+                ..
+            } => &[Want::Atomic, Want::Value],
+            Library::ReadWrite { explicit: true, .. } => {
+                &[Want::Atomic, Want::Value, Want::Order(OrderUse::ReadWrite)]
+            }
+            Library::CompareExchange {
+                explicit: false,
+                ..
+            } => &[Want::Atomic, Want::Expected, Want::Value],
+            Library::CompareExchange { explicit: true, .. } => &[
+                Want::Atomic,
+                Want::Expected,
+                Want::Value,
+                Want::Order(OrderUse::ReadWrite),
+                Want::FailureOrder,
+            ],
+            Library::Fence => &[Want::Order(OrderUse::Fence)],
+            Library::MutexInit => &[Want::Mutex, Want::MutexKind],
+            Library::MutexLock
+            | Library::MutexTryLock
+            | Library::MutexUnlock
+            | Library::MutexDestroy => &[Want::Mutex],
+            Library::Yield => &[],
+            Library::Create => &[Want::NewHandle, Want::ThreadFunction, Want::Value],
+            Library::Join => &[Want::Handle, Want::Answer],
+            Library::Assert => &[Want::Value],
+            Library::Print => &[Want::Format],
+        }
+    }
+
+    /// Whether a call of the function has a value.
+    pub fn has_value(self) -> bool
+        ensures { (object : CType) → result ≡ is_some (spec.library_answers self object) }
+    {
+        !matches!(
+            self,
+            Library::Store { .. }
+                | Library::Fence
+                | Library::MutexDestroy
+                | Library::Yield
+                | Library::Assert
+        )
     }
 }
