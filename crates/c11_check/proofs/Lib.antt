@@ -5,3 +5,5 @@ pub mod Kept
 pub mod Counting
 pub mod Keeps
 pub mod Parts
+pub mod Walking
+pub mod Stmts

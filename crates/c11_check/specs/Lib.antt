@@ -9,3 +9,5 @@ pub mod Programs
 pub mod Table
 pub mod Bound
 pub mod Chains
+pub mod Walks
+pub mod Branches

@@ -1,5 +1,6 @@
 -- All faults of a program, and the first of them (C11 6.9).
 use Rattle.std.specs.Prelude.{◌≡◌, ℕ, ◌==◌, Bool, false, ◌||◌, ◌&&◌, not, List, [], ◌∷◌, ◌++◌, length, Option, Some, None, nat_lt, codes, slice_get, if◌then◌else◌}
+use Rattle.std.specs.List.{list_any}
 use Rattle.std.specs.Str.{bytes_eq}
 use Rattle.c11_ast.specs.declared.place.Constant.{Constant}
 use Rattle.c11_ast.specs.declared.item.GlobalKind.{GlobalKind}
@@ -91,8 +92,7 @@ is_main (item.Function f) = is_main_function f
 is_main _ = false
 
 abbrev pub has_main : List Item → Bool
-has_main [] = false
-has_main (item ∷ items) = is_main item || has_main items
+has_main items = list_any is_main items
 
 abbrev pub no_main : List Item → List Fault
 no_main items = when (not (has_main items)) rule.NoMain (record { line = 1; column = 1 })

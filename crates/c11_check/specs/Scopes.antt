@@ -1,8 +1,9 @@
 -- Names and what they denote, from place to place in a program (C11 6.2.1, 6.7.9 and 6.9).
-use Rattle.std.specs.Prelude.{ℕ, ◌+◌, Bool, true, false, not, List, [], ◌∷◌, ◌++◌, length, drop, Option, Some, None, neg_ℤ, unsigned_abs, int_lt, pos, nat_lt, is_some, if◌then◌else◌}
+use Rattle.std.specs.Prelude.{ℕ, ◌+◌, ◌-◌, ◌^◌, Bool, true, false, not, List, [], ◌∷◌, ◌++◌, length, drop, take, Option, Some, None, unsigned_abs, int_lt, pos, nat_lt, is_some, if◌then◌else◌}
 use Rattle.std.specs.Str.{bytes_eq}
 use Rattle.c11_num.specs.Ranges.{TypedNumber}
-use Rattle.c11_num.specs.Wrapping.{wrapped}
+use Rattle.c11_num.specs.Wrapping.{wrapping}
+use Rattle.c11_num.specs.declared.kind.RmwKind.TheVariants as sub
 use Rattle.c11_num.specs.declared.value.CType.{CType}
 use Rattle.c11_num.specs.declared.value.CType.TheVariants.{Long}
 use Rattle.c11_ast.specs.declared.place.Known.{Known}
@@ -16,7 +17,7 @@ use Rattle.c11_check.specs.declared.entity.Entity.{Entity}
 use Rattle.c11_check.specs.declared.entity.Entity.TheVariants as e
 use Rattle.c11_check.specs.declared.entity.Signature.{Signature}
 use Rattle.c11_check.specs.declared.entity.Counts.{Counts}
-use Rattle.c11_check.specs.Library.{or_else, library_entity, constant_value}
+use Rattle.c11_check.specs.Library.{or_else, library_entity, constant_value, valued}
 
 -- a declared name
 pub record Named : Type 0 where
@@ -50,9 +51,9 @@ is_declared_here scope name = is_some (last_named (drop scope.start scope.names)
 abbrev pub entered : Scope → Scope
 entered scope = record { names = scope.names; start = length scope.names; counts = scope.counts }
 
--- After the inner scope only its counts are left.
+-- After the inner scope the names that were there before it are left; what was declared in it still counts.
 abbrev pub left_for : Scope → Scope → Scope
-left_for outer inner = record { names = outer.names; start = outer.start; counts = inner.counts }
+left_for outer inner = record { names = take (length outer.names) inner.names; start = outer.start; counts = inner.counts }
 
 -- a function's own scope, in which no place is taken yet
 abbrev pub entered_function : Scope → Scope
@@ -73,9 +74,9 @@ abbrev pub known_value : Scope → Known → Option TypedNumber
 known_value scope (known.Literal value) = Some value
 known_value scope (known.Named word) = entity_value (denoted scope word.name)
 
--- a `-` is computed in the type of the constant
+-- A `-` is computed in the type of the constant, from 0. No constant of a text overflows there, since it has no sign of its own.
 abbrev pub signed_value : Bool → TypedNumber → TypedNumber
-signed_value true value = wrapped value.ctype (neg_ℤ value.number)
+signed_value true value = wrapping sub.Sub (valued value.ctype 0) value
 signed_value false value = value
 
 abbrev pub with_sign : Bool → Option TypedNumber → Option TypedNumber
@@ -121,6 +122,10 @@ mutex_limit = 64
 abbrev pub place_limit : ℕ
 place_limit = 256
 
+-- more functions than a program of fewer than 2 ^ 32 items has
+abbrev pub function_limit : ℕ
+function_limit = 2 ^ 32 - 1
+
 -- ---- declarations
 
 -- a local of an integer type, or a parameter
@@ -158,7 +163,7 @@ signature_of f = record { answers = f.answers; params = length f.params; pointer
 
 abbrev pub with_function : Scope → Function → Scope
 with_function scope f = let counts = scope.counts in
-    declared scope f.word.name (e.Function counts.functions (signature_of f)) (record counts { functions = counts.functions + 1 })
+    declared scope f.word.name (e.Function counts.functions (signature_of f)) (record counts { functions = counted function_limit counts.functions None })
 
 -- at the beginning of a program
 abbrev pub file_scope : Scope

@@ -8,6 +8,7 @@
 
 mod arguments;
 mod around;
+mod declarations;
 mod entity;
 mod expressions;
 mod fault;
@@ -17,7 +18,9 @@ mod format;
 mod kinds;
 mod last;
 mod library;
+mod programs;
 mod scopes;
+mod statements;
 
 pub use around::Around;
 pub use entity::{Counts, Entity, Signature};

@@ -17,6 +17,13 @@ struct Binding<'a> {
     hides: Option<usize>,
 }
 
+/// What was there before a scope began.
+#[derive(Clone, Copy, Debug)]
+pub(crate) struct Mark {
+    names: usize,
+    start: usize,
+}
+
 /// The names in force at a place of a program. Contracts see what is declared, and where the innermost scope begins.
 #[derive(Drop)]
 pub(crate) struct Scopes<'a> {
@@ -113,24 +120,43 @@ impl<'a> Scopes<'a> {
         Ok(())
     }
 
-    /// Begins a scope. The answer is where the scope around it began.
-    pub(crate) fn enter(&mut self) -> usize
+    /// Begins a scope. The answer is what is needed at its end.
+    pub(crate) fn enter(&mut self) -> Mark
         ensures entered { self.new ≡ spec.entered self.old }
-        ensures outer { result ≡ self.old.start }
+        ensures names { result.names ≡ length self.old.names }
+        ensures start { result.start ≡ self.old.start }
     {
-        let outer = self.start;
+        let mark = Mark {
+            names: self.bindings.len(),
+            start: self.start,
+        };
         self.start = self.bindings.len();
-        outer
+        mark
     }
 
-    /// Ends the innermost scope; the one around it began at `outer`.
-    pub(crate) fn leave(&mut self, outer: usize)
-        ensures { self.new ≡ record { names = take self.old.start self.old.names; start = outer; counts = self.old.counts } }
+    /// Begins the scope of a function, in which no place is taken yet. The answer is what is needed at its end.
+    pub(crate) fn enter_function(&mut self) -> Mark
+        ensures entered { self.new ≡ spec.entered_function self.old }
+        ensures names { result.names ≡ length self.old.names }
+        ensures start { result.start ≡ self.old.start }
     {
-        while self.start < self.bindings.len() {
+        let mark = Mark {
+            names: self.bindings.len(),
+            start: self.start,
+        };
+        self.start = self.bindings.len();
+        self.counts.places = 0;
+        mark
+    }
+
+    /// Ends a scope: the names that were there before it are left.
+    pub(crate) fn leave(&mut self, mark: Mark)
+        ensures { self.new ≡ record { names = take mark.names self.old.names; start = mark.start; counts = self.old.counts } }
+    {
+        while mark.names < self.bindings.len() {
             self.forget_last();
         }
-        self.start = outer;
+        self.start = mark.start;
     }
 
     // Forgets the name that was declared last.
