@@ -1,0 +1,15 @@
+pub mod Knowing
+pub mod Listing
+pub mod Noting
+pub mod Texted
+pub mod Recalling
+pub mod Agreeing
+pub mod Committing
+pub mod Ordering
+pub mod Accessing
+pub mod Offering
+pub mod Storing
+pub mod Following
+pub mod Beginning
+pub mod Prior
+pub mod Nonempty

@@ -1,0 +1,7 @@
+use Rattle.std.proofs.Common.{ℕ, List, sym, subst, true}
+use Rattle.c11_mayread.proofs.Ordering.{Lists, store_links}
+use Rattle.c11_mayread.proofs.linking.link_store.Goals as goal
+
+pub returns-clause-linked : goal.returns-clause-linked
+returns-clause-linked c = store_links c.args.past.now c.args.event.now c.args.cell c.is_seq_cst.result c.is_seq_cst.ensures c.as_slice.result.now c.args.graph.now c.add.new.self c.order.new.self
+    (subst (λ (l : List ℕ). Lists c.args.past.now c.args.event.now c.args.cell c.is_seq_cst.result true l) (sym c.as_slice.ensures.value) c.list_priors.ensures.priors) c.add.ensures.stands c.order.ensures.stands

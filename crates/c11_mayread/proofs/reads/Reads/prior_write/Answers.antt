@@ -1,0 +1,10 @@
+use Rattle.std.proofs.Common.{ℕ, List, Bool, sym, subst}
+use Rattle.c11_mayread.specs.Listed.{PriorWrites}
+use Rattle.c11_mayread.proofs.Prior.{prior_writes}
+use Rattle.c11_mayread.proofs.reads.Reads.prior_write.Goals as goal
+
+pub returns : goal.returns
+returns c = λ events stands.
+    subst (λ (b : Bool). PriorWrites events c.args.thread c.args.cell b c.new.result) c.is_seq_cst.ensures
+    (subst (λ (l : List ℕ). PriorWrites events c.args.thread c.args.cell c.is_seq_cst.result l) (sym c.new.ensures)
+    (prior_writes events stands.lawful c.args.cell c.args.thread c.is_seq_cst.result _ (c.in_ok-priors.ensures events stands)))

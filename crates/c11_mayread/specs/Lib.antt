@@ -1,0 +1,11 @@
+pub mod Accesses
+pub mod Asks
+pub mod Facts
+pub mod Priors
+pub mod Sound
+pub mod Agreement
+pub mod Choosing
+pub mod Listed
+pub mod Standing
+pub mod Linked
+pub mod SoundReads
