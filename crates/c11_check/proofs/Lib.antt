@@ -7,3 +7,6 @@ pub mod Keeps
 pub mod Parts
 pub mod Walking
 pub mod Stmts
+pub mod Firsts
+pub mod Cells
+pub mod Limits

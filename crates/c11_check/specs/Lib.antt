@@ -11,3 +11,5 @@ pub mod Bound
 pub mod Chains
 pub mod Walks
 pub mod Branches
+pub mod Tables
+pub mod Checked

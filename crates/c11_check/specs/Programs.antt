@@ -17,6 +17,8 @@ use Rattle.c11_check.specs.declared.entity.Counts.{Counts}
 use Rattle.c11_check.specs.declared.fault.Rule.{Rule}
 use Rattle.c11_check.specs.declared.fault.Rule.TheVariants as rule
 use Rattle.c11_check.specs.declared.fault.Fault.{Fault}
+use Rattle.c11_check.specs.declared.fault.CheckFault.{CheckFault}
+use Rattle.c11_check.specs.declared.fault.CheckFault.TheVariants as c
 use Rattle.c11_check.specs.Scopes.{Scope, size_in, atomic_limit, plain_limit, mutex_limit, place_limit, with_global, with_define, with_function, with_local, param_type, entered_function, file_scope}
 use Rattle.c11_check.specs.Faults.{when, twice, misconstant, misstarted, missized, too_many, answers_int}
 use Rattle.c11_check.specs.Statements.{Walked, walked, before, followed, inside, size_faults, walk_of_block}
@@ -103,6 +105,10 @@ no_main items = when (not (has_main items)) rule.NoMain (record { line = 1; colu
 abbrev pub faults_of : Program → List Fault
 faults_of program = no_main program.items ++ (items_walk program.items file_scope).faults
 
+-- the part of an accepted text that is said of its program
+abbrev pub HasNoFault : Program → Type 0
+HasNoFault program = faults_of program ≡ []
+
 -- the number of a rule, which decides between faults of one place
 abbrev pub number_of : Rule → ℕ
 number_of rule.Unknown = 1
@@ -135,3 +141,29 @@ earlier (Some kept) fault = if precedes fault kept then Some fault else Some kep
 abbrev pub keep : Option Fault → List Fault → Option Fault
 keep kept [] = kept
 keep kept (fault ∷ faults) = keep (earlier kept fault) faults
+
+-- ---- refusals
+
+abbrev pub at_spot : Rule → ℕ → ℕ → Option Fault
+at_spot rule line column = Some (record { rule = rule; spot = record { line = line; column = column } })
+
+-- the fault that a refusal reports
+abbrev pub reported : CheckFault → Option Fault
+reported (c.Unknown line column) = at_spot rule.Unknown line column
+reported (c.Twice line column) = at_spot rule.Twice line column
+reported (c.Kind line column) = at_spot rule.Kind line column
+reported (c.Arguments line column) = at_spot rule.Arguments line column
+reported (c.Order line column) = at_spot rule.Order line column
+reported (c.NoMain line column) = at_spot rule.NoMain line column
+reported (c.Size line column) = at_spot rule.Size line column
+reported (c.TooMany line column) = at_spot rule.TooMany line column
+reported (c.Typing line column) = at_spot rule.Typing line column
+reported c.NoMemory = None
+
+abbrev pub IsFirstOf : List Fault → Option Fault → Type 0
+IsFirstOf faults None = Unit {0}
+IsFirstOf faults (Some fault) = IsFirst faults fault
+
+-- Unless memory ran out, the fault that is reported is the first of the program's.
+abbrev pub Refuses : Program → CheckFault → Type 0
+Refuses program fault = IsFirstOf (faults_of program) (reported fault)

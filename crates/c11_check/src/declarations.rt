@@ -28,7 +28,7 @@ pub(crate) const PLACE_LIMIT: u32 = 256;
 pub(crate) const FUNCTION_LIMIT: u32 = u32::MAX;
 
 // Zero in the type.
-fn zero(ctype: CType) -> CValue
+pub(crate) fn zero(ctype: CType) -> CValue
     ensures { result ≡ library.valued ctype 0 }
 {
     match ctype {
@@ -130,6 +130,19 @@ pub(crate) fn passes(limit: u32, count: u32, size: Option<u64>) -> bool
     ensures { result ≡ spec.passes limit count size }
 {
     fitting(limit, count, size).is_none()
+}
+
+/// The size of an object that does not pass the limit; none of one that does.
+pub(crate) fn fitting_size(limit: u32, count: u32, size: Option<u64>) -> Option<Option<u32>>
+    ensures { result ≡ (if spec.passes limit count size then None else Some size) }
+{
+    match fitting(limit, count, size) {
+        Some(sum) => match size {
+            Some(_) => Some(Some(sum - count)),
+            None => Some(None),
+        },
+        None => None,
+    }
 }
 
 /// The count with an object of this size, if it does not pass the limit.

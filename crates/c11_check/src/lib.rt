@@ -8,6 +8,7 @@
 
 mod arguments;
 mod around;
+mod checked;
 mod declarations;
 mod entity;
 mod expressions;
@@ -21,10 +22,14 @@ mod library;
 mod programs;
 mod scopes;
 mod statements;
+mod tables;
+mod whole;
 
 pub use around::Around;
+pub use checked::Checked;
 pub use entity::{Counts, Entity, Signature};
-pub use fault::{Fault, Rule};
+pub use fault::{CheckFault, Fault, Rule};
 pub use form::Form;
 pub use format::{Within, format_step, values_of_format};
 pub use library::{Library, LibraryConstant, Want, library_entity};
+pub use whole::check;

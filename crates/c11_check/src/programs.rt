@@ -22,7 +22,7 @@ use c11_ast::{Constant, Function, GlobalKind, Item, Param, Program, Spot, Start,
 use c11_num::{CType, CValue, NoMemory};
 use std::alloc::Global;
 
-fn limit_of(kind: GlobalKind) -> u32
+pub(crate) fn limit_of(kind: GlobalKind) -> u32
     ensures { result ≡ spec.limit_of kind }
 {
     match kind {
@@ -32,7 +32,7 @@ fn limit_of(kind: GlobalKind) -> u32
     }
 }
 
-fn count_of(kind: GlobalKind, counts: Counts) -> u32
+pub(crate) fn count_of(kind: GlobalKind, counts: Counts) -> u32
     ensures { result ≡ spec.count_of kind counts }
 {
     match kind {
@@ -312,8 +312,8 @@ fn item<'a>(
     }
 }
 
-// The function is a `main` that answers `int` and has no parameters.
-fn is_main_function(function: &Function) -> bool
+/// The function is a `main` that answers `int` and has no parameters.
+pub(crate) fn is_main_function(function: &Function) -> bool
     ensures { result ≡ spec.is_main_function function.now }
 {
     function.word.name.as_slice() == b"main".as_slice()
