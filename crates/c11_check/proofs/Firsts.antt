@@ -1,7 +1,9 @@
 -- The fault that is kept along all faults is the first of them.
-use Rattle.std.proofs.Common.{◌≡◌, ℕ, zero, suc, Bool, true, false, List, [], ◌∷◌, Option, Some, None, refl, sym, ap, ◌∙◌, subst, slice_get, unwrap_or, arith, true≢false}
+use Rattle.std.proofs.Common.{◌≡◌, ℕ, zero, suc, Bool, true, false, List, [], ◌∷◌, Option, Some, None, refl, sym, ap, ◌∙◌, subst, slice_get, unwrap_or, arith, true≢false, get_or, ◌⊎◌, inl, inr}
 use Rattle.std.specs.Prelude.{if◌then◌else◌, nat_lt, ◌==◌, ◌||◌, ◌&&◌}
 use Rattle.c11_check.specs.declared.fault.Fault.{Fault}
+use Rattle.c11_check.specs.declared.fault.Rule.{Rule}
+use Rattle.c11_check.specs.declared.fault.Rule.TheVariants as rule
 use Rattle.c11_check.specs.Programs.{keep, precedes, IsFirst, number_of}
 
 none_some : (f : Fault) → None ≡ Some f → ⊥
@@ -101,3 +103,52 @@ first_is (x ∷ xs) f is = first_from x xs f is (kept_first xs x)
 pub none_is : (xs : List Fault) → keep None xs ≡ None → xs ≡ []
 none_is [] is = refl
 none_is (x ∷ xs) is = absurd (none_some (kept_first xs x).0 (sym is ∙ (kept_first xs x).1))
+
+-- ---- there is one first fault at most, and one where there are faults
+
+abbrev rules_by_number : List Rule
+rules_by_number = rule.Unknown ∷ rule.Unknown ∷ rule.Twice ∷ rule.Kind ∷ rule.Arguments ∷ rule.Order ∷ rule.NoMain ∷ rule.Size ∷ rule.TooMany ∷ rule.Typing ∷ []
+
+rule_back : (r : Rule) → get_or rules_by_number (number_of r) rule.Unknown ≡ r
+rule_back rule.Unknown = refl
+rule_back rule.Twice = refl
+rule_back rule.Kind = refl
+rule_back rule.Arguments = refl
+rule_back rule.Order = refl
+rule_back rule.NoMain = refl
+rule_back rule.Size = refl
+rule_back rule.TooMany = refl
+rule_back rule.Typing = refl
+
+same_rule : (r s : Rule) → number_of r ≡ number_of s → r ≡ s
+same_rule r s e = sym (rule_back r) ∙ (ap (λ (n : ℕ). get_or rules_by_number n rule.Unknown) e ∙ rule_back s)
+
+lower_same : (x y : ℕ) (t u : Bool) → lower x y t ≡ false → lower y x u ≡ false → x ≡ y
+lower_same x y t u one another = grind arith
+
+lower_rest : (x y : ℕ) (t : Bool) → lower x y t ≡ false → x ≡ y → t ≡ false
+lower_rest x y true one e = grind arith
+lower_rest x y false one e = refl
+
+lt_same : (x y : ℕ) → nat_lt x y ≡ false → nat_lt y x ≡ false → x ≡ y
+lt_same x y one another = grind arith
+
+same_parts : (a b : Fault) → a.rule ≡ b.rule → a.spot.line ≡ b.spot.line → a.spot.column ≡ b.spot.column → a ≡ b
+same_parts a b rule line column = λ i. record { rule = rule i; spot = record { line = line i; column = column i } }
+
+neither : (a b : Fault) → precedes a b ≡ false → precedes b a ≡ false → a ≡ b
+neither a b one another =
+    let line = lower_same a.spot.line b.spot.line _ _ one another in
+    let t = lower_rest a.spot.line b.spot.line _ one line in
+    let u = lower_rest b.spot.line a.spot.line _ another (sym line) in
+    let column = lower_same a.spot.column b.spot.column _ _ t u in
+    let v = lower_rest a.spot.column b.spot.column _ t column in
+    let w = lower_rest b.spot.column a.spot.column _ u (sym column) in
+    same_parts a b (same_rule a.rule b.rule (lt_same (number_of a.rule) (number_of b.rule) v w)) line column
+
+pub one_is_first : (faults : List Fault) (one another : Fault) → IsFirst faults one → IsFirst faults another → one ≡ another
+one_is_first faults one another a b = neither one another (b.first a.member.0 one a.member.1) (a.first b.member.0 another b.member.1)
+
+pub some_is_first : (faults : List Fault) → (faults ≡ []) ⊎ ((fault : Fault) × IsFirst faults fault)
+some_is_first [] = inl refl
+some_is_first (x ∷ xs) = let r = kept_first xs x in inr (r.0, first_is (x ∷ xs) r.0 r.1)

@@ -13,3 +13,4 @@ pub mod Walks
 pub mod Branches
 pub mod Tables
 pub mod Checked
+pub mod Laws

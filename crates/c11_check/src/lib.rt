@@ -18,6 +18,7 @@ mod form;
 mod format;
 mod kinds;
 mod last;
+pub mod laws;
 mod library;
 mod programs;
 mod scopes;
