@@ -1,0 +1,9 @@
+pub mod Calls
+pub mod Exprs
+pub mod Follows
+pub mod Library
+pub mod More
+pub mod Objects
+pub mod Operators
+pub mod Parts
+pub mod Stmts

@@ -1,0 +1,4 @@
+pub mod Code
+pub mod Flat
+pub mod Law
+pub mod Pieces

@@ -1,0 +1,9 @@
+pub mod Asks
+pub mod Evaluation
+pub mod Expressions
+pub mod Library
+pub mod Objects
+pub mod Outcome
+pub mod Parts
+pub mod Prints
+pub mod Statements
