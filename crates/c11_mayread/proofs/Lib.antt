@@ -13,3 +13,4 @@ pub mod Following
 pub mod Beginning
 pub mod Prior
 pub mod Nonempty
+pub mod Playing

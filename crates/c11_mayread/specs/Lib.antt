@@ -9,3 +9,4 @@ pub mod Listed
 pub mod Standing
 pub mod Linked
 pub mod SoundReads
+pub mod Played

@@ -12,5 +12,7 @@ mod linking;
 mod lists;
 mod past;
 mod reads;
+#[cfg(test)]
+mod tests;
 
 pub use reads::Reads;

@@ -4,6 +4,7 @@ ghost use Rattle.c11_events.specs.declared.event.EventKind.{EventKind};
 ghost use Rattle.c11_events.specs.Events.{IsStore, is_seq_cst_order};
 ghost use Rattle.c11_events.specs.Chains.{ChainLawful};
 ghost use Rattle.c11_events.specs.HappensBefore.{HappensBefore};
+ghost use Rattle.c11_events.specs.Values.{value_of};
 ghost use Rattle.c11_events.specs.Offered.{op_cell, op_reading, IsChainOffered, ChainOffered, IsRisingList};
 ghost use Rattle.c11_happens.specs.Covers.{UpTo, CoversExactly, HasNoEvent, IsLastOf, IsCreateOf};
 ghost use Rattle.c11_mayread.specs.Standing.{Words, StandsFor, CanCommit, HaveSameCounts, IsReady, cells_of, threads_of, events_of, committed};
@@ -17,7 +18,7 @@ use crate::past::Past;
 use c11_clock::Clock;
 use c11_events::{Event, Offers, Op, Order};
 use c11_mograph::Graph;
-use c11_num::NoMemory;
+use c11_num::{CValue, NoMemory};
 use c11_scorder::laws::last_store_decides;
 use std::alloc::Global;
 use std::marker::Model;
@@ -188,6 +189,13 @@ impl Reads {
     {
         link_event(&mut self.graph, &self.past, &mut self.priors, event);
         self.past.note(event);
+    }
+
+    /// The value that the store x wrote.
+    pub fn value(&self, x: u32) -> CValue
+        ensures { (events : List Event) → StandsFor self.now events → x ≤ length events → result ≡ value_of events x }
+    {
+        self.past.value(x)
     }
 
     /// Whether the event a happens before the event b (ISO/IEC 9899:2011, 5.1.2.4). Both are committed.
