@@ -36,15 +36,16 @@ use Rattle.c11_machine.specs.declared.instr.Acts.{Acts}
 use Rattle.c11_machine.specs.declared.instr.Acts.TheVariants as acts
 use Rattle.c11_machine.specs.declared.instr.Place.{Place}
 use Rattle.c11_machine.specs.declared.instr.Place.TheVariants.{At}
+use Rattle.c11_machine.specs.declared.instr.Storage.TheVariants.{Local}
 use Rattle.c11_machine.specs.declared.slot.Slot.{Slot}
 use Rattle.c11_machine.specs.declared.slot.Slot.TheVariants as slot
-use Rattle.c11_machine.specs.Pieces.{Piece, Coding, plain, with_instr, place_in, located, dropped, value_given, values_given, loading, storing, modifying, comparing, with_mutex, destroying, creating, handle_located, handle_place, answer_located, answer_place, joining, library_call, call, type_in}
+use Rattle.c11_machine.specs.Pieces.{Piece, Coding, plain, with_instr, place_in, located, dropped, value_given, values_given, loading, storing, modifying, comparing, with_mutex, destroying, creating, handle_located, handle_place, answer_located, answer_place, handle_read, joining, library_call, call, type_in}
 use Rattle.c11_machine.specs.Pieces as pieces
 use Rattle.c11_machine.specs.Code.{Whole}
 use Rattle.c11_machine.specs.Flat.{Caller, Next, To, from, popping, mutex_act, on_answer}
 use Rattle.c11_machine.proofs.Follows.{Keeps, keeps_operation, keeps_stop, Follows, follows_bind, IsSized, sized_plain, sized_joined, config, Runs, runs_joined, runs_instr, runs_none, runs_same}
 use Rattle.c11_machine.proofs.Parts.{Any, ValueDoes, ObjectDoes, MayNameDoes, none, some, GivenDoes, address, text, value, AllGiven, nil, cons, same_entity, same_order, same_second, given_named}
-use Rattle.c11_machine.proofs.Objects.{keeps_done, keeps_if, from_gives, PlaceHeld, stacked, on_stacked, pushed, runs_load, runs_store, runs_modify, runs_dropped, object_sized, located_runs, behind_object, behind_value, same_entity_of}
+use Rattle.c11_machine.proofs.Objects.{keeps_done, keeps_if, from_gives, PlaceHeld, stacked, on_stacked, pushed, runs_load, runs_read, runs_store, runs_modify, runs_dropped, object_sized, located_runs, behind_object, behind_value, same_entity_of}
 use Rattle.c11_machine.proofs.Operators.{with_does, literal_does}
 
 -- ---- the values of arguments on the stack, the last one on top
@@ -355,20 +356,32 @@ module _ (code : Whole) (callers : List Caller) (answers : Option CType) where
     on_answer_stacked (Some place) n stack go held =
         ap (λ (k : Option ℕ). on_answer (Some place) (answer_stacked (Some place) k stack) go) held.1.0 ∙ (on_stacked place held.0 stack (λ m stack. go (Some m) stack) held.1.1 ∙ ap (λ (k : Option ℕ). go k stack) (sym held.1.0))
 
+    handle_read_sized : (line : ℕ) (g : Given Coding) (h : Given Valuing) (scope : Scope) → GivenDo g h → IsSized (handle_read line (given_object g) scope)
+    handle_read_sized line g h scope dg = sized_joined (handle_located (given_object g) scope) (plain (i.Read line Local Long (handle_place (given_object g) scope) ∷ []))
+        (handle_sized (given_object g) (given_object h) scope (given_named code callers answers calls g h dg)) (sized_plain (i.Read line Local Long (handle_place (given_object g) scope) ∷ []))
+
+    handle_read_pushes : (line : ℕ) (g : Given Coding) (h : Given Valuing) (scope : Scope) (stack : List Slot) → GivenDo g h
+        → Runs code callers answers Any (handle_read line (given_object g) scope) stack (pushed code callers answers stack) (lib.handle_read (given_object h) scope calls)
+    handle_read_pushes line g h scope stack dg = let place = handle_place (given_object g) scope in
+        runs_joined code callers answers (PlaceHeld place) Any (handle_located (given_object g) scope) (plain (i.Read line Local Long place ∷ [])) stack (λ n. stacked place n stack) (pushed code callers answers stack)
+        (lib.handle_located (given_object h) scope calls) (λ n st. Gives (record { ctype = Long; number = local_at st n }) st)
+        (handle_sized (given_object g) (given_object h) scope (given_named code callers answers calls g h dg)) (handle_runs (given_object g) (given_object h) scope stack (given_named code callers answers calls g h dg))
+        (λ n held. runs_read code callers answers Local Long line place n stack held)
+
     pub joining_does : (line : ℕ) (g : Given Coding) (h : Given Valuing) (a : Given Coding) (a' : Given Valuing) → GivenDo g h → GivenDo a a' → Does (joining line g a) (lib.joining line h a')
     joining_does line g h a a' dg da = record {
-      sized = λ scope. let join = i.Join line (handle_place (given_object g) scope) (answer_place a scope) in
-          sized_joined (handle_located (given_object g) scope) (with_instr (answer_located a scope) join) (handle_sized (given_object g) (given_object h) scope (given_named code callers answers calls g h dg))
+      sized = λ scope. let join = i.Join line (answer_place a scope) in
+          sized_joined (handle_read line (given_object g) scope) (with_instr (answer_located a scope) join) (handle_read_sized line g h scope dg)
           (sized_joined (answer_located a scope) (plain (join ∷ [])) (answer_sized a a' scope da) (sized_plain (join ∷ [])));
-      does = λ scope stack. let join = i.Join line (handle_place (given_object g) scope) (answer_place a scope) in
-          runs_joined code callers answers (PlaceHeld (handle_place (given_object g) scope)) Any (handle_located (given_object g) scope) (with_instr (answer_located a scope) join) stack (λ n. stacked (handle_place (given_object g) scope) n stack) (pushed code callers answers stack)
-          (lib.handle_located (given_object h) scope calls) (λ place st. and_then (lib.answer_place a' scope calls st) (λ answer st. operation line (op.Join (unsigned_abs (local_at st place))) st (joined answer)))
-          (handle_sized (given_object g) (given_object h) scope (given_named code callers answers calls g h dg)) (handle_runs (given_object g) (given_object h) scope stack (given_named code callers answers calls g h dg))
-          (λ n held. runs_joined code callers answers (AnswerHeld (answer_place a scope)) Any (answer_located a scope) (plain (join ∷ [])) (stacked (handle_place (given_object g) scope) n stack)
-          (λ m. answer_stacked (answer_place a scope) m (stacked (handle_place (given_object g) scope) n stack)) (pushed code callers answers stack) (lib.answer_place a' scope calls)
-          (λ answer st. operation line (op.Join (unsigned_abs (local_at st n))) st (joined answer)) (answer_sized a a' scope da) (answer_runs a a' scope (stacked (handle_place (given_object g) scope) n stack) da)
-          (λ m held'. runs_instr code callers answers Any join (answer_stacked (answer_place a scope) m (stacked (handle_place (given_object g) scope) n stack)) (pushed code callers answers stack) (λ st. operation line (op.Join (unsigned_abs (local_at st n))) st (joined m))
-          (λ b st. on_answer_stacked (answer_place a scope) m (stacked (handle_place (given_object g) scope) n stack) _ held' ∙ on_stacked (handle_place (given_object g) scope) n stack _ held)
+      does = λ scope stack. let join = i.Join line (answer_place a scope) in
+          runs_joined code callers answers Any Any (handle_read line (given_object g) scope) (with_instr (answer_located a scope) join) stack (pushed code callers answers stack) (pushed code callers answers stack)
+          (lib.handle_read (given_object h) scope calls) (λ thread st. and_then (lib.answer_place a' scope calls st) (λ answer st. operation line (op.Join (unsigned_abs thread.number)) st (joined answer)))
+          (handle_read_sized line g h scope dg) (handle_read_pushes line g h scope stack dg)
+          (λ v any. runs_joined code callers answers (AnswerHeld (answer_place a scope)) Any (answer_located a scope) (plain (join ∷ [])) (slot.Value v ∷ stack)
+          (λ m. answer_stacked (answer_place a scope) m (slot.Value v ∷ stack)) (pushed code callers answers stack) (lib.answer_place a' scope calls)
+          (λ answer st. operation line (op.Join (unsigned_abs v.number)) st (joined answer)) (answer_sized a a' scope da) (answer_runs a a' scope (slot.Value v ∷ stack) da)
+          (λ m held'. runs_instr code callers answers Any join (answer_stacked (answer_place a scope) m (slot.Value v ∷ stack)) (pushed code callers answers stack) (λ st. operation line (op.Join (unsigned_abs v.number)) st (joined m))
+          (λ b st. on_answer_stacked (answer_place a scope) m (slot.Value v ∷ stack) _ held')
           (λ most st le. keeps_operation most Any line _ st _ le (λ r after le. keeps_joined most m r after le))));
     }
 

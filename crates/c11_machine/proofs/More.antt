@@ -302,7 +302,7 @@ module _ (x : Reply) where
   act_more code (i.Fence line order) c = gives_more c c.stack _ _ (operation_later line _ c.state _ (λ r st. done_later nothing r st))
   act_more code (i.Mutex line a mutex) c = places_more mutex c.stack _ _ (λ n stack. gives_more c stack _ _ (mutex_later a line n c.state))
   act_more code (i.Create line function handle) c = values_more c.stack _ _ (λ v stack. places_more handle stack _ _ (λ n stack. gives_more c stack _ _ (operation_later line _ c.state _ (λ r st. created_later n r st))))
-  act_more code (i.Join line handle answer) c = answers_more answer c.stack _ _ (λ m stack. places_more handle stack _ _ (λ n stack. gives_more c stack _ _ (operation_later line _ c.state _ (λ r st. joined_later m r st))))
+  act_more code (i.Join line answer) c = answers_more answer c.stack _ _ (λ m stack. values_more stack _ _ (λ v stack. gives_more c stack _ _ (operation_later line _ c.state _ (λ r st. joined_later m r st))))
   act_more code (i.Assert line) c = values_more c.stack _ _ (λ v stack. tests_more (is_zero v) _ _ _ _ (gives_more c stack _ _ (stop_later line stop.Assert c.state)) (same _))
   act_more code (i.Print line text count) c = pops_more count [] c.stack _ _ (λ vs stack. gives_more c stack _ _ (operation_later line _ c.state _ (λ r st. done_later _ r st)))
   act_more code (i.Call line function count) c = pops_more count [] c.stack _ _ (λ vs stack. counts_more c.state.turns line c.state _ _ (λ st.

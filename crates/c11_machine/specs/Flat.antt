@@ -193,8 +193,8 @@ act code (i.Fence line order) c = from (operation line (op.Fence order) c.state 
 act code (i.Mutex line acts mutex) c = on_place mutex c.stack (λ n stack. from (mutex_act acts line n c.state) (giving c stack))
 act code (i.Create line function handle) c = on_value c.stack (λ value stack. on_place handle stack (λ n stack.
     from (operation line (op.Create function (converted Long value).number) c.state (created n)) (giving c stack)))
-act code (i.Join line handle answer) c = on_answer answer c.stack (λ place stack. on_place handle stack (λ n stack.
-    from (operation line (op.Join (unsigned_abs (local_at c.state n))) c.state (joined place)) (giving c stack)))
+act code (i.Join line answer) c = on_answer answer c.stack (λ place stack. on_value stack (λ thread stack.
+    from (operation line (op.Join (unsigned_abs thread.number)) c.state (joined place)) (giving c stack)))
 act code (i.Assert line) c = on_value c.stack (λ value stack. if is_zero value then from (outcome.stop line stop.Assert c.state) (giving c stack) else giving c stack nothing c.state)
 act code (i.Print line text count) c = popping count [] c.stack (λ values stack. from (writing line (printed format.Plain text values) c.state) (giving c stack))
 act code (i.Call line function count) c = popping count [] c.stack (λ values stack. calling code line function c values stack)

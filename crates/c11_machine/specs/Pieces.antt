@@ -1,6 +1,7 @@
 -- The code of expressions, along their trees: how many instructions, and which from a place on.
 use Rattle.std.specs.Prelude.{ℕ, ◌+◌, Bool, true, false, List, [], ◌∷◌, ◌++◌, length, Option, Some, None}
 use Rattle.c11_num.specs.declared.value.CType.{CType}
+use Rattle.c11_num.specs.declared.value.CType.TheVariants.{Long}
 use Rattle.c11_num.specs.declared.kind.BinaryOp.{BinaryOp}
 use Rattle.c11_num.specs.declared.kind.RmwKind.{RmwKind}
 use Rattle.c11_num.specs.Operators.{truth}
@@ -208,9 +209,11 @@ abbrev pub answer_place : Given Coding → Scope → Option Place
 answer_place (Address object) scope = Some (place_in object scope)
 answer_place _ scope = None
 
+abbrev pub handle_read : ℕ → Option (Object Coding) → Coding
+handle_read line handle scope = with_instr (handle_located handle scope) (i.Read line Local Long (handle_place handle scope))
+
 abbrev pub joining : ℕ → Given Coding → Given Coding → Coding
-joining line handle answer scope = joined (handle_located (given_object handle) scope) (with_instr (answer_located answer scope)
-    (i.Join line (handle_place (given_object handle) scope) (answer_place answer scope)))
+joining line handle answer scope = joined (handle_read line (given_object handle) scope) (with_instr (answer_located answer scope) (i.Join line (answer_place answer scope)))
 
 abbrev pub library_call : Library → ℕ → List (Given Coding) → Coding
 library_call (l.Load explicit) line (Address a ∷ orders) scope = loading line a orders scope

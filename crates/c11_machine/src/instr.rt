@@ -157,10 +157,9 @@ pub enum Instr {
         function: u32,
         handle: Place,
     },
-    /// Joins the thread of a handle; a place gets its value, where there is one. That lies above the handle's.
+    /// Joins the thread whose handle was read; a place gets its value, where there is one. That lies above the handle.
     Join {
         line: u32,
-        handle: Place,
         answer: Option<Place>,
     },
     Assert {

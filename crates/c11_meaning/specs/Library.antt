@@ -100,9 +100,13 @@ abbrev pub handle_located : Option (Object Valuing) → Scope → Calls → Stat
 handle_located None scope calls st = Gives 0 st
 handle_located (Some object) scope calls st = located object scope calls st
 
+-- the handle is read before the place of the answer is found
+abbrev pub handle_read : Option (Object Valuing) → Scope → Calls → State → Outcome TypedNumber
+handle_read handle scope calls st = and_then (handle_located handle scope calls st) (λ place st. Gives (record { ctype = Long; number = local_at st place }) st)
+
 abbrev pub joining : ℕ → Given Valuing → Given Valuing → Valuing
-joining line handle answer scope calls st = and_then (handle_located (given_object handle) scope calls st) (λ place st. and_then (answer_place answer scope calls st)
-    (λ answer st. operation line (op.Join (unsigned_abs (local_at st place))) st (joined answer)))
+joining line handle answer scope calls st = and_then (handle_read (given_object handle) scope calls st) (λ thread st. and_then (answer_place answer scope calls st)
+    (λ answer st. operation line (op.Join (unsigned_abs thread.number)) st (joined answer)))
 
 -- ---- `assert` and `printf`
 

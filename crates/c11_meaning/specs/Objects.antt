@@ -1,5 +1,5 @@
--- Reading and writing what a name denotes (C11 6.3.2.1, 6.5.2.1, 6.5.16 and 7.17.2; that an atomic object is read and written in
--- seq_cst order by its name is 6.5.16.2 and 7.17.3).
+-- Reading and writing what a name denotes (C11 6.3.2.1, 6.5.2.1, 6.5.2.4, 6.5.16; an atomic object by its name is read and written in
+-- seq_cst order by 6.2.6.1).
 use Rattle.std.specs.Prelude.{ℕ, ◌+◌, Bool, true, false, Option, Some, None, ℤ, pos, negsuc, nat_lt, if◌then◌else◌, slice_get, slice_set}
 use Rattle.std.specs.Ordering.{int_eq}
 use Rattle.c11_num.specs.Ranges.{TypedNumber}
