@@ -6,7 +6,7 @@ use Rattle.c11_events.specs.Chains.{Reach, ChainLawful}
 use Rattle.c11_events.specs.Added.{PriorWrite}
 use Rattle.c11_events.proofs.Adding.{event_adds}
 use Rattle.c11_events.proofs.Reaches.{must_reach}
-use Rattle.c11_mayread.specs.Choosing.{ListsPriors}
+use Rattle.c11_mayread.specs.Priors.{ListsPriors}
 use Rattle.c11_mayread.specs.Listed.{PriorReads, PriorWrites}
 use Rattle.c11_mayread.specs.Priors.{IsOrPrecedes, PriorTo, prior, seq_cst}
 

@@ -7,11 +7,7 @@ use Rattle.c11_events.specs.Values.{value_of}
 use Rattle.c11_events.specs.Chains.{Reach}
 use Rattle.c11_mayread.specs.declared.asked.Asked.{Asked}
 use Rattle.c11_mayread.specs.Asks.{stores_by}
-use Rattle.c11_mayread.specs.Priors.{IsNextOf, PriorTo, ArePriors, KeepsReadRule}
-
--- of each next event of the thread, seq_cst or not, the list has the priors
-abbrev pub ListsPriors : List Event → ℕ → ℕ → Bool → Bool → List ℕ → Type 0
-ListsPriors events thread cell is_sc stores list = (e : Event) → IsNextOf thread is_sc e → ArePriors events e cell stores list
+use Rattle.c11_mayread.specs.Priors.{PriorTo, KeepsReadRule}
 
 -- no store that must not follow what e reads is reached from it, and the read rule holds where e is seq_cst
 pub record MayFollow (events : List Event) (e : Event) (cell : ℕ) (stores : Bool) : Type 0 where

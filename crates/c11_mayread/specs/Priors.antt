@@ -31,6 +31,10 @@ pub record ArePriors (events : List Event) (e : Event) (cell : ℕ) (stores : Bo
   pub only : (p : ℕ) → In list p → PriorTo events e cell stores p
   pub all : (a : ℕ) → PriorTo events e cell stores a → (p : ℕ) × (In list p × IsOrPrecedes events cell a p)
 
+-- of each next event of the thread, seq_cst or not, the list has such stores
+abbrev pub ListsPriors : List Event → ℕ → ℕ → Bool → Bool → List ℕ → Type 0
+ListsPriors events thread cell is_sc stores list = (e : Event) → IsNextOf thread is_sc e → ArePriors events e cell stores list
+
 -- the number is that of the last event of the thread that e knows of
 abbrev pub KnowsUpTo : List Event → Event → ℕ → ℕ → Type 0
 KnowsUpTo events e of number = (a : ℕ) → IsOf events of a → (a ≤ number) ↔ IsKnown events e a

@@ -21,8 +21,8 @@ cells_of words = tables.cells_of words.past.order
 abbrev pub threads_of : Words → ℕ
 threads_of words = words.past.threads
 
-abbrev pub events_of : Words → ℕ
-events_of words = words.past.happens.room
+abbrev pub room_of : Words → ℕ
+room_of words = words.past.happens.room
 
 abbrev pub committed : Words → ℕ
 committed words = length words.past.kept
@@ -43,7 +43,7 @@ pub record StandsFor (words : Words) (events : List Event) : Type 0 where
 -- events chain-lawful
 pub record CanCommit (words : Words) (events : List Event) (e : Event) : Type 0 where
   pub number : e.number ≡ length events + 1
-  pub room : length events < events_of words
+  pub room : length events < room_of words
   pub thread : e.thread < threads_of words
   pub stored : (cell : ℕ) → stored_cell e.kind ≡ Some cell → cell < cells_of words
   pub loaded : (cell : ℕ) → loaded_cell e.kind ≡ Some cell → cell < cells_of words
@@ -53,11 +53,11 @@ pub record CanCommit (words : Words) (events : List Event) (e : Event) : Type 0 
 pub record HaveSameCounts (old new : Words) : Type 0 where
   pub cells : cells_of new ≡ cells_of old
   pub threads : threads_of new ≡ threads_of old
-  pub events : events_of new ≡ events_of old
+  pub events : room_of new ≡ room_of old
 
 -- the graph has the same counts, and room for as many stores as there may be events
 pub record AreFitting (words : Words) : Type 0 where
   pub cells : length words.graph.lists ≡ cells_of words
   pub threads : words.graph.threads ≡ threads_of words
-  pub size : words.graph.size ≡ events_of words
+  pub size : words.graph.size ≡ room_of words
   pub few : length words.graph.numbers ≤ committed words

@@ -7,10 +7,10 @@ ghost use Rattle.c11_events.specs.HappensBefore.{HappensBefore};
 ghost use Rattle.c11_events.specs.Values.{value_of};
 ghost use Rattle.c11_events.specs.Offered.{op_cell, op_reading, IsChainOffered, ChainOffered, IsRisingList};
 ghost use Rattle.c11_happens.specs.Covers.{UpTo, CoversExactly, HasNoEvent, IsLastOf, IsCreateOf};
-ghost use Rattle.c11_mayread.specs.Standing.{Words, StandsFor, CanCommit, HaveSameCounts, IsReady, cells_of, threads_of, events_of, committed};
-ghost use Rattle.c11_mayread.specs.Choosing.{ListsPriors, MayFollow, IsAskedAt};
+ghost use Rattle.c11_mayread.specs.Standing.{Words, StandsFor, CanCommit, HaveSameCounts, IsReady, cells_of, threads_of, room_of, committed};
+ghost use Rattle.c11_mayread.specs.Choosing.{MayFollow, IsAskedAt};
 ghost use Rattle.c11_mayread.specs.Listed.{PriorReads, PriorWrites};
-ghost use Rattle.c11_mayread.specs.Priors.{IsNextOf};
+ghost use Rattle.c11_mayread.specs.Priors.{IsNextOf, ListsPriors};
 
 use crate::asked::{Asked, asked_of, stores_by};
 use crate::linking::link_event;
@@ -47,11 +47,11 @@ impl Model for Reads {
 
 impl Reads {
     /// No event yet, with room for so many, of so many atomic cells and threads, each numbered from 0. All memory is taken here but
-    /// that of `room`.
+    /// that of `room` and of the lists that are answered.
     pub fn open(alloc: Global, cells: u32, threads: u32, events: u32) -> Result<Reads, NoMemory>
         ensures cells { IfOk result (λ reads. cells_of reads ≡ cells) }
         ensures threads { IfOk result (λ reads. threads_of reads ≡ threads) }
-        ensures events { IfOk result (λ reads. events_of reads ≡ events) }
+        ensures events { IfOk result (λ reads. room_of reads ≡ events) }
         ensures stands { IfOk result (λ reads. StandsFor reads []) }
     {
         Ok(Reads {
@@ -80,21 +80,24 @@ impl Reads {
         Ok(priors)
     }
 
-    /// The stores of the cell that must precede what a next load of the thread with this order reads, as far as they decide: each other
-    /// one that must reaches one of these, or what is read, already.
+    /// Stores of the cell that must not follow what a next load of the thread with this order reads: each one that must not is one of
+    /// these or must precede one. So each other one that must precede what is read reaches one of these, or what is read, already.
     pub fn prior_read(&self, thread: u32, cell: u32, order: Order) -> Result<Offers, NoMemory>
         requires thread { thread < threads_of self.now }
         requires cell { cell < cells_of self.now }
-        ensures { IfOk result (λ priors. (events : List Event) → StandsFor self.now events → PriorReads events thread cell (is_seq_cst_order order) priors) }
+        ensures priors { IfOk result (λ priors. (events : List Event) → StandsFor self.now events → ListsPriors events thread cell (is_seq_cst_order order) false priors) }
+        ensures decides { IfOk result (λ priors. (events : List Event) → StandsFor self.now events → PriorReads events thread cell (is_seq_cst_order order) priors) }
     {
         Ok(Offers::new(self.priors(thread, cell, order.is_seq_cst(), false)?))
     }
 
-    /// The stores of the cell that must precede a next store of the thread with this order, as far as they decide.
+    /// Stores of the cell that must precede a next store of the thread with this order: each one that must is one of these or must
+    /// precede one. What a read-modify-write reads is not listed for that.
     pub fn prior_write(&self, thread: u32, cell: u32, order: Order) -> Result<Offers, NoMemory>
         requires thread { thread < threads_of self.now }
         requires cell { cell < cells_of self.now }
-        ensures { IfOk result (λ priors. (events : List Event) → StandsFor self.now events → PriorWrites events thread cell (is_seq_cst_order order) priors) }
+        ensures priors { IfOk result (λ priors. (events : List Event) → StandsFor self.now events → ListsPriors events thread cell (is_seq_cst_order order) true priors) }
+        ensures decides { IfOk result (λ priors. (events : List Event) → StandsFor self.now events → PriorWrites events thread cell (is_seq_cst_order order) priors) }
     {
         Ok(Offers::new(self.priors(thread, cell, order.is_seq_cst(), true)?))
     }
@@ -169,9 +172,11 @@ impl Reads {
         }
     }
 
-    /// Makes room for one event; then `commit` takes no memory. `Err` only where memory runs out. The events are the same in both cases.
+    /// Makes room for one event; then `commit` takes no memory. `Err` only where memory runs out. The events are the same in both cases,
+    /// and room that was there stays.
     pub fn room(&mut self, _op: &Op) -> Result<(), NoMemory>
         ensures ready { OnOk result (IsReady self.new) }
+        ensures stays { IsReady self.old → IsReady self.new }
         ensures stands { (events : List Event) → StandsFor self.old events → StandsFor self.new events }
         ensures same { HaveSameCounts self.old self.new }
     {

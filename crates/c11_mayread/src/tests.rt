@@ -15,6 +15,10 @@ use std::test::Fail;
 
 const RELAXED: Order = Order::Relaxed;
 
+const RELEASE: Order = Order::Release;
+
+const ACQUIRE: Order = Order::Acquire;
+
 const SEQ_CST: Order = Order::SeqCst;
 
 // What a thread does; for a read the stores that are offered and the one that is read.
@@ -25,6 +29,8 @@ enum Act<'a> {
     // A compare-exchange of the first cell from the one value to the other, seq_cst.
     Exchange(i32, i32, &'a [u32], u32),
     Store(u32, Order),
+    // Of a plain cell.
+    Write,
     Fence(Order),
     End,
     Join(u32),
@@ -193,6 +199,13 @@ fn step(rt: &impl Abort, reads: &mut Reads, count: u32, thread: u32, act: Act) -
             let kind = EventKind::AtomicStore {
                 cell: cell % 2,
                 order,
+                value: int(1),
+            };
+            other(reads, count, thread, kind)
+        }
+        Act::Write => {
+            let kind = EventKind::PlainWrite {
+                cell: 0,
                 value: int(1),
             };
             other(reads, count, thread, kind)
@@ -570,6 +583,46 @@ fn read_modify_writes_stand_together(rt: HostRuntime) -> Result<(), Fail> {
 #[test]
 fn seq_cst_events_and_fences_hold_stores(rt: HostRuntime) -> Result<(), Fail> {
     play_all(&rt, rt.alloc(), SEQ_CST_EVENTS)
+}
+
+// A release store and a later store of its thread, of which the one or the other is acquired; and a release store that is acquired by
+// way of an addition.
+const RELEASES: &[Row] = &[
+    Row {
+        first: ONE_CELL,
+        steps: &[
+            (1, Act::Write),
+            (1, Act::Store(0, RELEASE)),
+            (1, Act::Store(0, RELAXED)),
+            (2, Act::Load(0, ACQUIRE, &[1, 8, 9], 9)),
+        ],
+        checks: &[Check::Before(7, 10, false)],
+    },
+    Row {
+        first: ONE_CELL,
+        steps: &[
+            (1, Act::Write),
+            (1, Act::Store(0, RELEASE)),
+            (1, Act::Store(0, RELAXED)),
+            (2, Act::Load(0, ACQUIRE, &[1, 8, 9], 8)),
+        ],
+        checks: &[Check::Before(7, 10, true), Check::Knows(2, 1, 8)],
+    },
+    Row {
+        first: THREE_THREADS,
+        steps: &[
+            (1, Act::Write),
+            (1, Act::Store(0, RELEASE)),
+            (3, Act::Add(0, RELAXED, &[1, 10], 10)),
+            (2, Act::Load(0, ACQUIRE, &[1, 10, 11], 11)),
+        ],
+        checks: &[Check::Before(9, 11, false), Check::Before(9, 12, true)],
+    },
+];
+
+#[test]
+fn an_acquire_hands_over_what_came_before_a_release(rt: HostRuntime) -> Result<(), Fail> {
+    play_all(&rt, rt.alloc(), RELEASES)
 }
 
 // A store that another thread reads, and a store of that thread. What it must not read behind are the first value, its own store, and

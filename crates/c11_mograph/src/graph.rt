@@ -72,9 +72,10 @@ impl Graph {
     }
 
     /// Makes room for one store and so many links; then `add` and `order` take no memory. `Err` only where memory runs out, and then
-    /// too nothing that was made changes.
+    /// too nothing that was made changes, and room that was there stays.
     pub fn room(&mut self, _links: u32) -> Result<(), NoMemory>
         ensures ready { OnOk result (self.new.ready ≡ true) }
+        ensures stays { self.old.ready ≡ true → self.new.ready ≡ true }
         ensures stands { (made : Made) → StandsFor self.old made → StandsFor self.new made }
         ensures same { HasSameCounts self.old self.new }
     {

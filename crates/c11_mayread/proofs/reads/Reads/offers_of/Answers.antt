@@ -7,7 +7,8 @@ use Rattle.c11_events.specs.Offered.{IsChainOffered}
 use Rattle.c11_mograph.specs.Made.{stores_of}
 use Rattle.c11_mayread.specs.Standing.{Words, StandsFor}
 use Rattle.c11_mayread.specs.SoundReads.{words_of}
-use Rattle.c11_mayread.specs.Choosing.{ArePicked, ListsPriors}
+use Rattle.c11_mayread.specs.Choosing.{ArePicked}
+use Rattle.c11_mayread.specs.Priors.{ListsPriors}
 use Rattle.c11_mayread.proofs.Offering.{picked_none, picked_skip, picked_push, picked_all}
 use Rattle.c11_mayread.proofs.Recalling.{positive, within}
 use Rattle.c11_mayread.proofs.Storing.{listed_rise, listed_store, store_listed}
