@@ -10,3 +10,4 @@ pub mod Standing
 pub mod Linked
 pub mod SoundReads
 pub mod Played
+pub mod Laws

@@ -8,6 +8,7 @@
 mod asked;
 mod kept;
 mod kinds;
+pub mod laws;
 mod linking;
 mod lists;
 mod past;
