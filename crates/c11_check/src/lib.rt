@@ -3,7 +3,8 @@
 //!
 //! The definitions stand in `specs/`: `Scopes` says what names denote, `Library` what the names of the library are, `Types` the
 //! types of expressions, `Faults` the faults, one short clause for each, and `Expressions`, `Statements` and `Programs` where
-//! in a tree each may stand.
+//! in a tree each may stand; `Tables` says what is declared, `Checked` and `Laws` the rest. `Table`, `Bound`, `Chains`,
+//! `Branches` and `Walks` are cited by private functions alone.
 #![tactic(auto)]
 
 mod arguments;
