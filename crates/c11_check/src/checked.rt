@@ -1,4 +1,4 @@
-ghost use Rattle.std.specs.Prelude.{◌≡◌, ◌<◌, Some, length, slice_get};
+ghost use Rattle.std.specs.Prelude.{◌≡◌, ◌<◌, ◌≤◌, Some, length, slice_get};
 ghost use Rattle.c11_check.specs.Tables.{IsWithin};
 
 use crate::tables::Tables;
@@ -32,21 +32,24 @@ impl Checked {
 
     /// How many atomic cells there are: 4,096 at most.
     pub fn atomic_count(&self) -> u32
-        ensures { result ≡ length self.now.tables.atomics }
+        ensures count { result ≡ length self.now.tables.atomics }
+        ensures within { length self.now.tables.atomics ≤ 4096 }
     {
         self.tables.atomics.len() as u32
     }
 
     /// How many plain cells there are: 65,536 at most.
     pub fn plain_count(&self) -> u32
-        ensures { result ≡ length self.now.tables.plains }
+        ensures count { result ≡ length self.now.tables.plains }
+        ensures within { length self.now.tables.plains ≤ 65536 }
     {
         self.tables.plains.len() as u32
     }
 
     /// How many mutexes there are: 64 at most.
     pub fn mutex_count(&self) -> u32
-        ensures { result ≡ length self.now.tables.mutexes }
+        ensures count { result ≡ length self.now.tables.mutexes }
+        ensures within { length self.now.tables.mutexes ≤ 64 }
     {
         self.tables.mutexes.len() as u32
     }
