@@ -39,8 +39,8 @@ pub(crate) fn zero(ctype: CType) -> CValue
     }
 }
 
-// The value of a constant of the library.
-fn constant_value(constant: LibraryConstant) -> CValue
+/// The value of a constant of the library.
+pub fn constant_value(constant: LibraryConstant) -> CValue
     ensures { result ≡ library.constant_value constant }
 {
     match constant {
@@ -75,7 +75,7 @@ fn signed_value(negative: bool, value: CValue) -> CValue
 }
 
 /// The value of the constant; none where its name has none.
-pub(crate) fn value_of_constant(scopes: &Scopes, constant: &Constant) -> Option<CValue>
+pub fn value_of_constant(scopes: &Scopes, constant: &Constant) -> Option<CValue>
     ensures { result ≡ spec.value_of_constant scopes.now constant.now }
 {
     let known = match &constant.value {
@@ -102,7 +102,7 @@ fn elements(value: Option<CValue>) -> u64
 }
 
 /// The size of an array; none of a variable.
-pub(crate) fn size_in(scopes: &Scopes, size: &Option<Constant>) -> Option<u64>
+pub fn size_in(scopes: &Scopes, size: &Option<Constant>) -> Option<u64>
     ensures { result ≡ spec.size_in scopes.now size.now }
 {
     match size {

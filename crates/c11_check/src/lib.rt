@@ -4,13 +4,14 @@
 //! The definitions stand in `specs/`: `Scopes` says what names denote, `Library` what the names of the library are, `Types` the
 //! types of expressions, `Faults` the faults, one short clause for each, and `Expressions`, `Statements` and `Programs` where
 //! in a tree each may stand; `Tables` says what is declared, `Checked` and `Laws` the rest. `Table`, `Bound`, `Chains`,
-//! `Branches` and `Walks` are cited by private functions alone.
+//! `Branches` are cited by private functions alone. The modules `scopes`, `declarations`, `statements` and `programs` are for those
+//! who walk a program again and have to know what its names denote.
 #![tactic(auto)]
 
 mod arguments;
 mod around;
 mod checked;
-mod declarations;
+pub mod declarations;
 mod entity;
 mod expressions;
 mod fault;
@@ -21,9 +22,9 @@ mod kinds;
 mod last;
 pub mod laws;
 mod library;
-mod programs;
-mod scopes;
-mod statements;
+pub mod programs;
+pub mod scopes;
+pub mod statements;
 mod tables;
 mod whole;
 

@@ -108,10 +108,7 @@ fn signature_of(function: &Function) -> Signature
 }
 
 /// Declares a function, with the next number.
-pub(crate) fn declare_function<'a>(
-    scopes: &mut Scopes<'a>,
-    function: &'a Function,
-) -> Result<(), NoMemory>
+pub fn declare_function<'a>(scopes: &mut Scopes<'a>, function: &'a Function) -> Result<(), NoMemory>
     ensures { OnOk result (scopes.new ≡ scope.with_function scopes.old function.now) }
 {
     let counts = scopes.counts();
@@ -226,8 +223,8 @@ fn vars<'a>(
     Ok(first)
 }
 
-// The type of a parameter: `void *` is a spelling of `long`.
-fn param_type(ctype: Option<CType>) -> CType
+/// The type of a parameter: `void *` is a spelling of `long`.
+pub fn param_type(ctype: Option<CType>) -> CType
     ensures { result ≡ scope.param_type ctype }
 {
     match ctype {
@@ -252,8 +249,8 @@ fn param<'a>(
     Ok(first)
 }
 
-// Parameters, one after the other.
-fn params<'a>(
+/// The first fault, also of those of the parameters; they are declared, one after the other.
+pub fn params<'a>(
     scopes: &mut Scopes<'a>,
     first: Option<Fault>,
     params: &'a [Param],
@@ -288,8 +285,8 @@ fn function<'a>(
     Ok(first)
 }
 
-// An item.
-fn item<'a>(
+/// The first fault, also of those of the item; its declarations are made.
+pub fn item<'a>(
     scopes: &mut Scopes<'a>,
     first: Option<Fault>,
     item: &'a Item,

@@ -17,16 +17,17 @@ struct Binding<'a> {
     hides: Option<usize>,
 }
 
-/// What was there before a scope began.
+/// What was there at a place of a program: how many names, where the innermost scope began, and how much was declared.
 #[derive(Clone, Copy, Debug)]
-pub(crate) struct Mark {
+pub struct Mark {
     names: usize,
     start: usize,
+    counts: Counts,
 }
 
 /// The names in force at a place of a program. Contracts see what is declared, and where the innermost scope begins.
 #[derive(Drop)]
-pub(crate) struct Scopes<'a> {
+pub struct Scopes<'a> {
     bindings: Vec<Binding<'a>>,
     last: Last<'a>,
     start: usize,
@@ -48,7 +49,7 @@ impl<'a> Model for Scopes<'a> {
 
 impl<'a> Scopes<'a> {
     /// The scope at the beginning of a program.
-    pub(crate) fn new(alloc: Global) -> Scopes<'a>
+    pub fn new(alloc: Global) -> Scopes<'a>
         ensures { result ≡ spec.file_scope }
     {
         Scopes {
@@ -66,7 +67,7 @@ impl<'a> Scopes<'a> {
     }
 
     /// What the name denotes.
-    pub(crate) fn denoted(&self, name: &[u8]) -> Option<Entity>
+    pub fn denoted(&self, name: &[u8]) -> Option<Entity>
         ensures { result ≡ spec.denoted self.now name.now }
     {
         match self.last.place(name) {
@@ -76,7 +77,7 @@ impl<'a> Scopes<'a> {
     }
 
     /// Whether the innermost scope declares the name.
-    pub(crate) fn is_declared_here(&self, name: &[u8]) -> bool
+    pub fn is_declared_here(&self, name: &[u8]) -> bool
         ensures { result ≡ spec.is_declared_here self.now name.now }
     {
         match self.last.place(name) {
@@ -86,14 +87,14 @@ impl<'a> Scopes<'a> {
     }
 
     /// How much has been declared.
-    pub(crate) fn counts(&self) -> Counts
+    pub fn counts(&self) -> Counts
         ensures { result ≡ self.now.counts }
     {
         self.counts
     }
 
     /// Declares the name in the innermost scope. After an error the scopes are as before.
-    pub(crate) fn declare(
+    pub fn declare(
         &mut self,
         name: &'a [u8],
         entity: Entity,
@@ -121,28 +122,32 @@ impl<'a> Scopes<'a> {
     }
 
     /// Begins a scope. The answer is what is needed at its end.
-    pub(crate) fn enter(&mut self) -> Mark
+    pub fn enter(&mut self) -> Mark
         ensures entered { self.new ≡ spec.entered self.old }
         ensures names { result.names ≡ length self.old.names }
         ensures start { result.start ≡ self.old.start }
+        ensures counts { result.counts ≡ self.old.counts }
     {
         let mark = Mark {
             names: self.bindings.len(),
             start: self.start,
+            counts: self.counts,
         };
         self.start = self.bindings.len();
         mark
     }
 
     /// Begins the scope of a function, in which no place is taken yet. The answer is what is needed at its end.
-    pub(crate) fn enter_function(&mut self) -> Mark
+    pub fn enter_function(&mut self) -> Mark
         ensures entered { self.new ≡ spec.entered_function self.old }
         ensures names { result.names ≡ length self.old.names }
         ensures start { result.start ≡ self.old.start }
+        ensures counts { result.counts ≡ self.old.counts }
     {
         let mark = Mark {
             names: self.bindings.len(),
             start: self.start,
+            counts: self.counts,
         };
         self.start = self.bindings.len();
         self.counts.places = 0;
@@ -150,13 +155,21 @@ impl<'a> Scopes<'a> {
     }
 
     /// Ends a scope: the names that were there before it are left.
-    pub(crate) fn leave(&mut self, mark: Mark)
+    pub fn leave(&mut self, mark: Mark)
         ensures { self.new ≡ record { names = take mark.names self.old.names; start = mark.start; counts = self.old.counts } }
     {
         while mark.names < self.bindings.len() {
             self.forget_last();
         }
         self.start = mark.start;
+    }
+
+    /// Goes back to where the mark was made: what was declared since then is forgotten, and does not count.
+    pub fn go_back(&mut self, mark: Mark)
+        ensures { self.new ≡ record { names = take mark.names self.old.names; start = mark.start; counts = mark.counts } }
+    {
+        self.leave(mark);
+        self.counts = mark.counts;
     }
 
     // Forgets the name that was declared last.

@@ -19,7 +19,7 @@ use c11_ast::{Expr, Local, Place, Spot, Stmt, Word};
 use c11_num::{CType, NoMemory};
 
 /// Declares a local of an integer type, or a parameter.
-pub(crate) fn declare_local<'a>(
+pub fn declare_local<'a>(
     scopes: &mut Scopes<'a>,
     word: &'a Word,
     ctype: CType,
@@ -38,7 +38,7 @@ pub(crate) fn declare_local<'a>(
 }
 
 /// Declares a handle.
-fn declare_handle<'a>(
+pub fn declare_handle<'a>(
     scopes: &mut Scopes<'a>,
     word: &'a Word,
     size: Option<u64>,

@@ -1,9 +1,9 @@
 -- What a call of a function of the library does: its objects and their bounds, its values, and one operation at the line of its name
 -- (C11 7.2.1.1, 7.17.4, 7.17.7, 7.21.6.3, 7.26.4 and 7.26.5).
-use Rattle.std.specs.Prelude.{ℕ, Bool, true, false, List, [], ◌∷◌, length, Option, Some, None, pos, unsigned_abs, if◌then◌else◌}
+use Rattle.std.specs.Prelude.{ℕ, Bool, true, false, List, [], ◌∷◌, length, Option, Some, None, pos, if◌then◌else◌}
 use Rattle.c11_num.specs.Ranges.{TypedNumber}
-use Rattle.c11_num.specs.Wrapping.{converted}
-use Rattle.c11_num.specs.declared.value.CType.TheVariants.{Long}
+use Rattle.c11_num.specs.Wrapping.{bits_of, converted}
+use Rattle.c11_num.specs.declared.value.CType.TheVariants.{Unsigned, Long}
 use Rattle.c11_num.specs.declared.kind.RmwKind.{RmwKind}
 use Rattle.c11_events.specs.declared.op.Op.TheVariants as op
 use Rattle.c11_events.specs.declared.op.StopKind.TheVariants.{Assert}
@@ -17,7 +17,7 @@ use Rattle.c11_check.specs.declared.format.Within.TheVariants.{Plain}
 use Rattle.c11_check.specs.Scopes.{Scope}
 use Rattle.c11_check.specs.Types.{entity_type}
 use Rattle.c11_meaning.specs.Outcome.{State, Outcome, Gives, Over, and_then, operation, told, when_done, stop}
-use Rattle.c11_meaning.specs.Objects.{int_of, nothing, is_zero, local_at, with_local_at}
+use Rattle.c11_meaning.specs.Objects.{int_of, nothing, is_zero, local_value, with_local_at}
 use Rattle.c11_meaning.specs.Prints.{printed}
 use Rattle.c11_meaning.specs.Parts.{Object, Given, Address, Text, Value, entity_of, given_object, given_entity, order_in, second_order_in, function_named}
 use Rattle.c11_meaning.specs.Expressions.{Calls, Valuing, located}
@@ -57,7 +57,7 @@ exchanged place reply st = Over
 abbrev pub comparing : ℕ → Bool → Object Valuing → Object Valuing → Given Valuing → List (Given Valuing) → Valuing
 comparing line weak a expected given orders scope calls st = and_then (located a scope calls st) (λ cell st. and_then (located expected scope calls st)
     (λ place st. and_then (value_given given scope calls st) (λ value st. operation line (op.CompareExchange cell (order_in orders scope) (second_order_in orders scope) weak
-    (record { ctype = entity_type (entity_of expected scope); number = local_at st place }) (object_value a scope value)) st (exchanged place))))
+    (local_value (entity_type (entity_of expected scope)) st place) (object_value a scope value)) st (exchanged place))))
 
 -- ---- mutexes (C11 7.26.4)
 
@@ -102,11 +102,15 @@ handle_located (Some object) scope calls st = located object scope calls st
 
 -- the handle is read before the place of the answer is found
 abbrev pub handle_read : Option (Object Valuing) → Scope → Calls → State → Outcome TypedNumber
-handle_read handle scope calls st = and_then (handle_located handle scope calls st) (λ place st. Gives (record { ctype = Long; number = local_at st place }) st)
+handle_read handle scope calls st = and_then (handle_located handle scope calls st) (λ place st. Gives (local_value Long st place) st)
+
+-- the thread whose number a handle holds, which 32 bits do
+abbrev pub thread_of : TypedNumber → ℕ
+thread_of handle = bits_of Unsigned handle.number
 
 abbrev pub joining : ℕ → Given Valuing → Given Valuing → Valuing
 joining line handle answer scope calls st = and_then (handle_read (given_object handle) scope calls st) (λ thread st. and_then (answer_place answer scope calls st)
-    (λ answer st. operation line (op.Join (unsigned_abs thread.number)) st (joined answer)))
+    (λ answer st. operation line (op.Join (thread_of thread)) st (joined answer)))
 
 -- ---- `assert` and `printf`
 

@@ -3,7 +3,7 @@
 use Rattle.std.specs.Prelude.{ℕ, ◌+◌, Bool, true, false, Option, Some, None, ℤ, pos, negsuc, nat_lt, if◌then◌else◌, slice_get, slice_set}
 use Rattle.std.specs.Ordering.{int_eq}
 use Rattle.c11_num.specs.Ranges.{TypedNumber}
-use Rattle.c11_num.specs.Wrapping.{converted, wrapping}
+use Rattle.c11_num.specs.Wrapping.{wrapped, converted, wrapping}
 use Rattle.c11_num.specs.Operators.{binary_of}
 use Rattle.c11_num.specs.declared.value.CType.{CType}
 use Rattle.c11_num.specs.declared.value.CType.TheVariants.{Int}
@@ -38,6 +38,10 @@ option_number None = pos 0
 abbrev pub local_at : State → ℕ → ℤ
 local_at st place = option_number (slice_get st.locals place)
 
+-- what a place holds, as a value of the object's type, which holds every number that is put there
+abbrev pub local_value : CType → State → ℕ → TypedNumber
+local_value ctype st place = wrapped ctype (local_at st place)
+
 abbrev pub with_local_at : State → ℕ → ℤ → State
 with_local_at st place number = record st { locals = slice_set st.locals place number }
 
@@ -67,7 +71,7 @@ element line base size (negsuc n) st = stop line Bounds st
 -- ---- reading and assigning
 
 abbrev pub read_of : Option Entity → ℕ → ℕ → State → Outcome TypedNumber
-read_of (Some (e.Local ctype base size)) line place st = Gives (record { ctype = ctype; number = local_at st place }) st
+read_of (Some (e.Local ctype base size)) line place st = Gives (local_value ctype st place) st
 read_of (Some (e.Plain ctype base size)) line cell st = operation line (PlainRead cell) st told
 read_of (Some (e.Atomic ctype base size)) line cell st = operation line (AtomicLoad cell SeqCst) st told
 read_of (Some (e.Defined value)) line place st = Gives value st

@@ -8,11 +8,11 @@ use Rattle.c11_events.specs.declared.op.Op.{Op}
 use Rattle.c11_events.specs.declared.op.StopKind.{StopKind}
 use Rattle.c11_events.specs.declared.reply.Reply.{Reply}
 use Rattle.c11_meaning.specs.Outcome.{State, Outcome, Gives, Wants, Over, and_then, with_reply, operation, stop, left, turn_limit}
-use Rattle.c11_machine.specs.declared.instr.Instr.{Instr}
-use Rattle.c11_machine.specs.declared.slot.Slot.{Slot}
-use Rattle.c11_machine.specs.Pieces.{Piece, plain, joined}
-use Rattle.c11_machine.specs.Code.{Whole}
-use Rattle.c11_machine.specs.Flat.{Caller, Config, Next, To, Says, Halts, from, act, act_at, next, steps}
+use Rattle.c11_flat.specs.declared.instr.Instr.{Instr}
+use Rattle.c11_flat.specs.declared.slot.Slot.{Slot}
+use Rattle.c11_flat.specs.Pieces.{Piece, plain, joined}
+use Rattle.c11_flat.specs.Code.{Whole}
+use Rattle.c11_flat.specs.Flat.{Caller, Config, Next, To, Says, Halts, from, act, act_at, next, steps}
 
 -- from one moment to another
 abbrev pub Reaches : Whole → Next → Next → Type 0

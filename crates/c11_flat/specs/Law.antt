@@ -4,8 +4,8 @@ use Rattle.c11_ast.specs.declared.item.Program.{Program}
 use Rattle.c11_events.specs.declared.op.Ask.{Ask}
 use Rattle.c11_events.specs.declared.reply.Reply.{Reply}
 use Rattle.c11_meaning.specs.Asks.{asks_of}
-use Rattle.c11_machine.specs.Code.{Whole, whole_of}
-use Rattle.c11_machine.specs.Flat.{Config, To, Says, Halts, start, steps}
+use Rattle.c11_flat.specs.Code.{Whole, whole_of}
+use Rattle.c11_flat.specs.Flat.{Config, To, Says, Halts, start, steps}
 
 -- after some number of instructions, with these replies
 pub record AsksAsTrees (program : Program) (replies : List Reply) : Type 0 where

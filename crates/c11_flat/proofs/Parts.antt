@@ -6,12 +6,12 @@ use Rattle.c11_ast.specs.declared.expr.Infix.{Infix}
 use Rattle.c11_check.specs.Scopes.{Scope}
 use Rattle.c11_meaning.specs.Parts.{Object, Part, Given, Address, Text, Value, Linked, entity_given, given_object, given_entity, order_named, order_in, second_order_in}
 use Rattle.c11_meaning.specs.Expressions.{Calls, Valuing}
-use Rattle.c11_machine.specs.declared.slot.Slot.{Slot}
-use Rattle.c11_machine.specs.declared.slot.Slot.TheVariants as slot
-use Rattle.c11_machine.specs.Pieces.{Coding}
-use Rattle.c11_machine.specs.Code.{Whole}
-use Rattle.c11_machine.specs.Flat.{Caller}
-use Rattle.c11_machine.proofs.Follows.{IsSized, Runs}
+use Rattle.c11_flat.specs.declared.slot.Slot.{Slot}
+use Rattle.c11_flat.specs.declared.slot.Slot.TheVariants as slot
+use Rattle.c11_flat.specs.Pieces.{Coding}
+use Rattle.c11_flat.specs.Code.{Whole}
+use Rattle.c11_flat.specs.Flat.{Caller}
+use Rattle.c11_flat.proofs.Follows.{IsSized, Runs}
 
 abbrev pub Any : {A : Type 0} → A → Type 0
 Any a = Unit {0}

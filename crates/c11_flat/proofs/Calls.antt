@@ -22,18 +22,18 @@ use Rattle.c11_meaning.specs.Objects.{nothing}
 use Rattle.c11_meaning.specs.Expressions.{Calls}
 use Rattle.c11_meaning.specs.Statements.{Flow, Next, Breaks, Continues, Returns}
 use Rattle.c11_meaning.specs.Asks.{Runnable, functions_of, given_numbers, first_locals, body_from, answer_of, answered, called, calls_of, more_frames, end_line, thread_of, begun, wanted, asks_of}
-use Rattle.c11_machine.specs.declared.instr.Instr.{Instr}
-use Rattle.c11_machine.specs.declared.instr.Instr.TheVariants as i
-use Rattle.c11_machine.specs.declared.slot.Slot.{Slot}
-use Rattle.c11_machine.specs.declared.slot.Slot.TheVariants as slot
-use Rattle.c11_machine.specs.Code.{Whole, Start, types_of, start_of, strip_of_block, function_size, function_code, starts_from, instrs_from, whole_of}
-use Rattle.c11_machine.specs.Flat.{Caller, Config, To, Says, Halts, from, act, act_at, next, steps, numbers_in, locals_in, entering, calling, answer_in, returning, first, beginning, asking, start}
-use Rattle.c11_machine.specs.Flat as flat
-use Rattle.c11_machine.specs.Law.{AsksAsTrees, FlatAsksAsTrees}
-use Rattle.c11_machine.proofs.Follows.{Follows, Reaches, reaches_on, steps_add, follows_bind, follows_step, HasAt, has_front, has_back, config}
-use Rattle.c11_machine.proofs.Parts.{Any}
-use Rattle.c11_machine.proofs.Library.{CallsDo, stacked_all, takes_args}
-use Rattle.c11_machine.proofs.Stmts.{follows_stop, flow_to, block_does}
+use Rattle.c11_flat.specs.declared.instr.Instr.{Instr}
+use Rattle.c11_flat.specs.declared.instr.Instr.TheVariants as i
+use Rattle.c11_flat.specs.declared.slot.Slot.{Slot}
+use Rattle.c11_flat.specs.declared.slot.Slot.TheVariants as slot
+use Rattle.c11_flat.specs.Code.{Whole, Start, types_of, start_of, strip_of_block, function_size, function_code, starts_from, instrs_from, whole_of}
+use Rattle.c11_flat.specs.Flat.{Caller, Config, To, Says, Halts, from, act, act_at, next, steps, numbers_in, locals_in, entering, calling, answer_in, returning, first, beginning, asking, start}
+use Rattle.c11_flat.specs.Flat as flat
+use Rattle.c11_flat.specs.Law.{AsksAsTrees, FlatAsksAsTrees}
+use Rattle.c11_flat.proofs.Follows.{Follows, Reaches, reaches_on, steps_add, follows_bind, follows_step, HasAt, has_front, has_back, config}
+use Rattle.c11_flat.proofs.Parts.{Any}
+use Rattle.c11_flat.proofs.Library.{CallsDo, stacked_all, takes_args}
+use Rattle.c11_flat.proofs.Stmts.{follows_stop, flow_to, block_does}
 
 -- a call that is counted
 counts_call : {A : Type 0} (code : Whole) (most t line : ℕ) (P : A → Type 0) (st : State) (to : A → State → flat.Next) (go' : State → flat.Next) (go : State → Outcome A) → t ≡ st.turns → left st ≤ most

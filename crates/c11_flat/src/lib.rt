@@ -4,9 +4,13 @@
 //! with one stack for all its calls, stops at each operation, and goes on with the reply. The layout is this project's own.
 #![tactic(auto)]
 
+mod code;
 mod instr;
 pub mod laws;
 mod slot;
+mod span;
 
-pub use instr::{Acts, Instr, Place, Span, Storage};
+pub use code::{Code, Start};
+pub use instr::{Acts, Instr, Place, Storage};
 pub use slot::Slot;
+pub use span::Span;

@@ -1,4 +1,4 @@
-ghost use Rattle.c11_machine.specs.Law.{FlatAsksAsTrees, AReplyIsLeft};
+ghost use Rattle.c11_flat.specs.Law.{FlatAsksAsTrees, AReplyIsLeft};
 
 /// The flat code of a program asks, for each list of replies, exactly what the program's syntax trees ask, and ends without an answer
 /// where these have none. No condition is on the program, the replies, or their kinds.

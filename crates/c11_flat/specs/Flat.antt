@@ -1,5 +1,5 @@
 -- What flat code does, one instruction after the other.
-use Rattle.std.specs.Prelude.{ℕ, zero, suc, ◌+◌, ◌-◌, List, [], ◌∷◌, ◌++◌, Option, Some, None, ℤ, pos, unsigned_abs, length, replicate, nat_lt, if◌then◌else◌, slice_get}
+use Rattle.std.specs.Prelude.{ℕ, zero, suc, ◌+◌, ◌-◌, List, [], ◌∷◌, ◌++◌, Option, Some, None, ℤ, pos, length, replicate, nat_lt, if◌then◌else◌, slice_get}
 use Rattle.c11_num.specs.Ranges.{TypedNumber}
 use Rattle.c11_num.specs.Wrapping.{converted}
 use Rattle.c11_num.specs.Operators.{binary_of}
@@ -13,22 +13,22 @@ use Rattle.c11_events.specs.declared.reply.Reply.TheVariants.{Began}
 use Rattle.c11_check.specs.declared.format.Within.TheVariants as format
 use Rattle.c11_meaning.specs.Outcome.{State, Outcome, Gives, Wants, Over, and_then, operation, told, when_done, computed, turn_limit}
 use Rattle.c11_meaning.specs.Outcome as outcome
-use Rattle.c11_meaning.specs.Objects.{nothing, one, is_zero, local_at, with_local_at, element, updated, step_op, new_or_old}
+use Rattle.c11_meaning.specs.Objects.{nothing, one, is_zero, local_value, with_local_at, element, updated, step_op, new_or_old}
 use Rattle.c11_meaning.specs.Expressions.{prefixed, cast, truth_of}
-use Rattle.c11_meaning.specs.Library.{zero_number, when_locked, tried, created, exchanged, joined, writing}
+use Rattle.c11_meaning.specs.Library.{zero_number, when_locked, tried, created, exchanged, joined, thread_of, writing}
 use Rattle.c11_meaning.specs.Prints.{printed}
 use Rattle.c11_meaning.specs.Statements.{cleared}
-use Rattle.c11_machine.specs.declared.instr.Instr.{Instr}
-use Rattle.c11_machine.specs.declared.instr.Instr.TheVariants as i
-use Rattle.c11_machine.specs.declared.instr.Place.{Place}
-use Rattle.c11_machine.specs.declared.instr.Place.TheVariants.{At, OnStack}
-use Rattle.c11_machine.specs.declared.instr.Storage.{Storage}
-use Rattle.c11_machine.specs.declared.instr.Storage.TheVariants.{Local, Plain}
-use Rattle.c11_machine.specs.declared.instr.Acts.{Acts}
-use Rattle.c11_machine.specs.declared.instr.Acts.TheVariants as acts
-use Rattle.c11_machine.specs.declared.slot.Slot.{Slot}
-use Rattle.c11_machine.specs.declared.slot.Slot.TheVariants as slot
-use Rattle.c11_machine.specs.Code.{Whole, Start}
+use Rattle.c11_flat.specs.declared.instr.Instr.{Instr}
+use Rattle.c11_flat.specs.declared.instr.Instr.TheVariants as i
+use Rattle.c11_flat.specs.declared.instr.Place.{Place}
+use Rattle.c11_flat.specs.declared.instr.Place.TheVariants.{At, OnStack}
+use Rattle.c11_flat.specs.declared.instr.Storage.{Storage}
+use Rattle.c11_flat.specs.declared.instr.Storage.TheVariants.{Local, Plain}
+use Rattle.c11_flat.specs.declared.instr.Acts.{Acts}
+use Rattle.c11_flat.specs.declared.instr.Acts.TheVariants as acts
+use Rattle.c11_flat.specs.declared.slot.Slot.{Slot}
+use Rattle.c11_flat.specs.declared.slot.Slot.TheVariants as slot
+use Rattle.c11_flat.specs.Code.{Whole, Start}
 
 -- where a caller goes on, what it answers, and its locals
 pub record Caller : Type 0 where
@@ -101,7 +101,7 @@ jumping c to stack = if nat_lt c.place to then To (record c { place = to; stack 
 -- ---- single instructions
 
 abbrev pub read_at : Storage → CType → ℕ → ℕ → State → Outcome TypedNumber
-read_at Local ctype line place st = Gives (record { ctype = ctype; number = local_at st place }) st
+read_at Local ctype line place st = Gives (local_value ctype st place) st
 read_at Plain ctype line cell st = operation line (op.PlainRead cell) st told
 
 abbrev pub write_at : Storage → CType → ℕ → ℕ → TypedNumber → State → Outcome TypedNumber
@@ -188,13 +188,13 @@ act code (i.Store line order ctype cell) c = on_value c.stack (λ value stack. o
 act code (i.Modify line order kind ctype cell old) c = on_value c.stack (λ value stack. on_place cell stack (λ n stack.
     from (operation line (op.Rmw n order kind (converted ctype value)) c.state (λ reply st. and_then (told reply st) (updated old kind (converted ctype value)))) (giving c stack)))
 act code (i.Compare line weak success failure ctype expected cell local) c = on_value c.stack (λ value stack. on_place local stack (λ place stack. on_place cell stack (λ n stack.
-    from (operation line (op.CompareExchange n success failure weak (record { ctype = expected; number = local_at c.state place }) (converted ctype value)) c.state (exchanged place)) (giving c stack))))
+    from (operation line (op.CompareExchange n success failure weak (local_value expected c.state place) (converted ctype value)) c.state (exchanged place)) (giving c stack))))
 act code (i.Fence line order) c = from (operation line (op.Fence order) c.state (when_done nothing)) (giving c c.stack)
 act code (i.Mutex line acts mutex) c = on_place mutex c.stack (λ n stack. from (mutex_act acts line n c.state) (giving c stack))
 act code (i.Create line function handle) c = on_value c.stack (λ value stack. on_place handle stack (λ n stack.
     from (operation line (op.Create function (converted Long value).number) c.state (created n)) (giving c stack)))
 act code (i.Join line answer) c = on_answer answer c.stack (λ place stack. on_value stack (λ thread stack.
-    from (operation line (op.Join (unsigned_abs thread.number)) c.state (joined place)) (giving c stack)))
+    from (operation line (op.Join (thread_of thread)) c.state (joined place)) (giving c stack)))
 act code (i.Assert line) c = on_value c.stack (λ value stack. if is_zero value then from (outcome.stop line stop.Assert c.state) (giving c stack) else giving c stack nothing c.state)
 act code (i.Print line text count) c = popping count [] c.stack (λ values stack. from (writing line (printed format.Plain text values) c.state) (giving c stack))
 act code (i.Call line function count) c = popping count [] c.stack (λ values stack. calling code line function c values stack)

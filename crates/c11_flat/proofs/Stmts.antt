@@ -26,23 +26,23 @@ use Rattle.c11_meaning.specs.Expressions.{Calls, choosing}
 use Rattle.c11_meaning.specs.Evaluation.{value_of}
 use Rattle.c11_meaning.specs.Statements.{Flow, Next, Breaks, Continues, Returns, Run, Armed, Running, behind, going, after_body, turning, repeating, cleared, arm_step, block_step, stmt_step, run_step, walk_of_run, walk_of_armed}
 use Rattle.c11_meaning.specs.Statements as means
-use Rattle.c11_machine.specs.declared.instr.Instr.{Instr}
-use Rattle.c11_machine.specs.declared.instr.Instr.TheVariants as i
-use Rattle.c11_machine.specs.declared.instr.Place.TheVariants.{At}
-use Rattle.c11_machine.specs.declared.instr.Storage.TheVariants as storage
-use Rattle.c11_machine.specs.declared.slot.Slot.{Slot}
-use Rattle.c11_machine.specs.declared.slot.Slot.TheVariants as slot
-use Rattle.c11_machine.specs.Pieces.{Piece, piece_of}
-use Rattle.c11_machine.specs.Code.{Whole, Strip, Laying, of_piece, of_instrs, plain, joined, chosen, in_order, optional_run, first_of, alone, optional_alone, optional_piece, for_strip, started, locals_strip, handles_strip, strip_step}
-use Rattle.c11_machine.specs.Code as code_of
-use Rattle.c11_machine.specs.Flat.{Caller, Config, To, Halts, from, act, act_at, returning, answer_in}
-use Rattle.c11_machine.specs.Flat as flat
-use Rattle.c11_machine.proofs.Follows.{Follows, follows_from, follows_step, follows_less, follows_bind, reaches_on, Reaches, HasAt, has_front, has_back, config, IsSized, sized_plain, Runs, runs_none}
-use Rattle.c11_machine.proofs.Parts.{Any}
-use Rattle.c11_machine.proofs.Objects.{from_gives, pushed, runs_push}
-use Rattle.c11_machine.proofs.Operators.{jump_does}
-use Rattle.c11_machine.proofs.Library.{CallsDo}
-use Rattle.c11_machine.proofs.Exprs.{expr_does}
+use Rattle.c11_flat.specs.declared.instr.Instr.{Instr}
+use Rattle.c11_flat.specs.declared.instr.Instr.TheVariants as i
+use Rattle.c11_flat.specs.declared.instr.Place.TheVariants.{At}
+use Rattle.c11_flat.specs.declared.instr.Storage.TheVariants as storage
+use Rattle.c11_flat.specs.declared.slot.Slot.{Slot}
+use Rattle.c11_flat.specs.declared.slot.Slot.TheVariants as slot
+use Rattle.c11_flat.specs.Pieces.{Piece, piece_of}
+use Rattle.c11_flat.specs.Code.{Whole, Strip, Laying, of_piece, of_instrs, plain, joined, chosen, in_order, optional_run, first_of, alone, optional_alone, optional_piece, for_strip, started, locals_strip, handles_strip, strip_step}
+use Rattle.c11_flat.specs.Code as code_of
+use Rattle.c11_flat.specs.Flat.{Caller, Config, To, Halts, from, act, act_at, returning, answer_in}
+use Rattle.c11_flat.specs.Flat as flat
+use Rattle.c11_flat.proofs.Follows.{Follows, follows_from, follows_step, follows_less, follows_bind, reaches_on, Reaches, HasAt, has_front, has_back, config, IsSized, sized_plain, Runs, runs_none}
+use Rattle.c11_flat.proofs.Parts.{Any}
+use Rattle.c11_flat.proofs.Objects.{from_gives, pushed, runs_push}
+use Rattle.c11_flat.proofs.Operators.{jump_does}
+use Rattle.c11_flat.proofs.Library.{CallsDo}
+use Rattle.c11_flat.proofs.Exprs.{expr_does}
 
 -- a Stop, after which the code halts
 stop_replies : {A : Type 0} (code : Whole) (most : ℕ) (P : A → Type 0) (to : A → State → flat.Next) (ask : Ask) (locals : List ℤ) (replies : List Reply)

@@ -21,13 +21,13 @@ use Rattle.c11_check.specs.Scopes.{Scope, denoted}
 use Rattle.c11_check.specs.Types.{branches_type, entity_type}
 use Rattle.c11_meaning.specs.Objects.{nothing, one, entity_base, entity_size, kind_of_op, step_op, not_before}
 use Rattle.c11_meaning.specs.Parts.{Object, Part, Given, Address, Text, Value, Linked, line_of, entity_of, given_object, given_entity, order_in, second_order_in, function_named, arg_step, link_step, target_step, part_step}
-use Rattle.c11_machine.specs.declared.instr.Instr.{Instr}
-use Rattle.c11_machine.specs.declared.instr.Instr.TheVariants as i
-use Rattle.c11_machine.specs.declared.instr.Place.{Place}
-use Rattle.c11_machine.specs.declared.instr.Place.TheVariants.{At, OnStack}
-use Rattle.c11_machine.specs.declared.instr.Storage.TheVariants.{Local, Plain}
-use Rattle.c11_machine.specs.declared.instr.Acts.{Acts}
-use Rattle.c11_machine.specs.declared.instr.Acts.TheVariants as acts
+use Rattle.c11_flat.specs.declared.instr.Instr.{Instr}
+use Rattle.c11_flat.specs.declared.instr.Instr.TheVariants as i
+use Rattle.c11_flat.specs.declared.instr.Place.{Place}
+use Rattle.c11_flat.specs.declared.instr.Place.TheVariants.{At, OnStack}
+use Rattle.c11_flat.specs.declared.instr.Storage.TheVariants.{Local, Plain}
+use Rattle.c11_flat.specs.declared.instr.Acts.{Acts}
+use Rattle.c11_flat.specs.declared.instr.Acts.TheVariants as acts
 
 pub record Piece : Type 0 where
   pub size : ℕ

@@ -18,14 +18,14 @@ use Rattle.c11_meaning.specs.Parts.{Object, Part, Given, Linked, arg_step, link_
 use Rattle.c11_meaning.specs.Expressions.{Calls, Valuing}
 use Rattle.c11_meaning.specs.Evaluation.{value_step}
 use Rattle.c11_meaning.specs.Evaluation as means
-use Rattle.c11_machine.specs.Pieces.{Coding, code_step}
-use Rattle.c11_machine.specs.Pieces as pieces
-use Rattle.c11_machine.specs.Code.{Whole}
-use Rattle.c11_machine.specs.Flat.{Caller}
-use Rattle.c11_machine.proofs.Parts.{ObjectDoes, named, indexed, none, some, PartDoes, GivenDoes, address, text, value, LinkDoes, linked, AllGiven, AllLinks, nil, cons}
-use Rattle.c11_machine.proofs.Objects.{reading_does, assigning_does, stepping_does, same_entity_of}
-use Rattle.c11_machine.proofs.Operators.{prefix_does, cast_does, literal_does, condition_does, chain_does}
-use Rattle.c11_machine.proofs.Library.{CallsDo, call_does}
+use Rattle.c11_flat.specs.Pieces.{Coding, code_step}
+use Rattle.c11_flat.specs.Pieces as pieces
+use Rattle.c11_flat.specs.Code.{Whole}
+use Rattle.c11_flat.specs.Flat.{Caller}
+use Rattle.c11_flat.proofs.Parts.{ObjectDoes, named, indexed, none, some, PartDoes, GivenDoes, address, text, value, LinkDoes, linked, AllGiven, AllLinks, nil, cons}
+use Rattle.c11_flat.proofs.Objects.{reading_does, assigning_does, stepping_does, same_entity_of}
+use Rattle.c11_flat.proofs.Operators.{prefix_does, cast_does, literal_does, condition_does, chain_does}
+use Rattle.c11_flat.proofs.Library.{CallsDo, call_does}
 
 -- what is made of each part, by a step on expressions
 module _ (V : Type 0) (step : Expr-F (Given V) (Part V) (Linked V) (Object V) → V) where

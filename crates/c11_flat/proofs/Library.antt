@@ -1,6 +1,6 @@
 -- The code of calls does what their meaning says.
 use Rattle.std.proofs.Common.{◌≡◌, ℕ, zero, suc, ◌+◌, ◌≤◌, Bool, true, false, List, [], ◌∷◌, ◌++◌, length, Option, Some, None, refl, ap, ◌∙◌, sym, arith}
-use Rattle.std.specs.Prelude.{ℤ, unsigned_abs, slice_get, if◌then◌else◌}
+use Rattle.std.specs.Prelude.{ℤ, slice_get, if◌then◌else◌}
 use Rattle.c11_num.specs.Ranges.{TypedNumber}
 use Rattle.c11_num.specs.Wrapping.{converted}
 use Rattle.c11_num.specs.declared.value.CType.{CType}
@@ -23,30 +23,30 @@ use Rattle.c11_check.specs.Scopes.{Scope}
 use Rattle.c11_check.specs.Types.{entity_type}
 use Rattle.c11_meaning.specs.Outcome.{State, Outcome, Gives, Wants, Over, and_then, operation, told, when_done, left}
 use Rattle.c11_meaning.specs.Outcome as outcome
-use Rattle.c11_meaning.specs.Objects.{nothing, is_zero, local_at, updated}
+use Rattle.c11_meaning.specs.Objects.{nothing, is_zero, local_value, updated}
 use Rattle.c11_meaning.specs.Prints.{printed}
 use Rattle.c11_meaning.specs.Parts.{Object, Given, entity_of, given_object, given_entity, order_in, second_order_in, function_named}
 use Rattle.c11_meaning.specs.Expressions.{Calls, Valuing, cast}
 use Rattle.c11_meaning.specs.Expressions as means
-use Rattle.c11_meaning.specs.Library.{when_locked, tried, created, exchanged, joined, writing, zero_number}
+use Rattle.c11_meaning.specs.Library.{when_locked, tried, created, exchanged, joined, thread_of, writing, zero_number}
 use Rattle.c11_meaning.specs.Library as lib
-use Rattle.c11_machine.specs.declared.instr.Instr.{Instr}
-use Rattle.c11_machine.specs.declared.instr.Instr.TheVariants as i
-use Rattle.c11_machine.specs.declared.instr.Acts.{Acts}
-use Rattle.c11_machine.specs.declared.instr.Acts.TheVariants as acts
-use Rattle.c11_machine.specs.declared.instr.Place.{Place}
-use Rattle.c11_machine.specs.declared.instr.Place.TheVariants.{At}
-use Rattle.c11_machine.specs.declared.instr.Storage.TheVariants.{Local}
-use Rattle.c11_machine.specs.declared.slot.Slot.{Slot}
-use Rattle.c11_machine.specs.declared.slot.Slot.TheVariants as slot
-use Rattle.c11_machine.specs.Pieces.{Piece, Coding, plain, with_instr, place_in, located, dropped, value_given, values_given, loading, storing, modifying, comparing, with_mutex, destroying, creating, handle_located, handle_place, answer_located, answer_place, handle_read, joining, library_call, call, type_in}
-use Rattle.c11_machine.specs.Pieces as pieces
-use Rattle.c11_machine.specs.Code.{Whole}
-use Rattle.c11_machine.specs.Flat.{Caller, Next, To, from, popping, mutex_act, on_answer}
-use Rattle.c11_machine.proofs.Follows.{Keeps, keeps_operation, keeps_stop, Follows, follows_bind, IsSized, sized_plain, sized_joined, config, Runs, runs_joined, runs_instr, runs_none, runs_same}
-use Rattle.c11_machine.proofs.Parts.{Any, ValueDoes, ObjectDoes, MayNameDoes, none, some, GivenDoes, address, text, value, AllGiven, nil, cons, same_entity, same_order, same_second, given_named}
-use Rattle.c11_machine.proofs.Objects.{keeps_done, keeps_if, from_gives, PlaceHeld, stacked, on_stacked, pushed, runs_load, runs_read, runs_store, runs_modify, runs_dropped, object_sized, located_runs, behind_object, behind_value, same_entity_of}
-use Rattle.c11_machine.proofs.Operators.{with_does, literal_does}
+use Rattle.c11_flat.specs.declared.instr.Instr.{Instr}
+use Rattle.c11_flat.specs.declared.instr.Instr.TheVariants as i
+use Rattle.c11_flat.specs.declared.instr.Acts.{Acts}
+use Rattle.c11_flat.specs.declared.instr.Acts.TheVariants as acts
+use Rattle.c11_flat.specs.declared.instr.Place.{Place}
+use Rattle.c11_flat.specs.declared.instr.Place.TheVariants.{At}
+use Rattle.c11_flat.specs.declared.instr.Storage.TheVariants.{Local}
+use Rattle.c11_flat.specs.declared.slot.Slot.{Slot}
+use Rattle.c11_flat.specs.declared.slot.Slot.TheVariants as slot
+use Rattle.c11_flat.specs.Pieces.{Piece, Coding, plain, with_instr, place_in, located, dropped, value_given, values_given, loading, storing, modifying, comparing, with_mutex, destroying, creating, handle_located, handle_place, answer_located, answer_place, handle_read, joining, library_call, call, type_in}
+use Rattle.c11_flat.specs.Pieces as pieces
+use Rattle.c11_flat.specs.Code.{Whole}
+use Rattle.c11_flat.specs.Flat.{Caller, Next, To, from, popping, mutex_act, on_answer}
+use Rattle.c11_flat.proofs.Follows.{Keeps, keeps_operation, keeps_stop, Follows, follows_bind, IsSized, sized_plain, sized_joined, config, Runs, runs_joined, runs_instr, runs_none, runs_same}
+use Rattle.c11_flat.proofs.Parts.{Any, ValueDoes, ObjectDoes, MayNameDoes, none, some, GivenDoes, address, text, value, AllGiven, nil, cons, same_entity, same_order, same_second, given_named}
+use Rattle.c11_flat.proofs.Objects.{keeps_done, keeps_if, from_gives, PlaceHeld, stacked, on_stacked, pushed, runs_load, runs_read, runs_store, runs_modify, runs_dropped, object_sized, located_runs, behind_object, behind_value, same_entity_of}
+use Rattle.c11_flat.proofs.Operators.{with_does, literal_does}
 
 -- ---- the values of arguments on the stack, the last one on top
 
@@ -252,27 +252,27 @@ module _ (code : Whole) (callers : List Caller) (answers : Option CType) where
 
     abbrev lib_compare : ℕ → Bool → Order → Order → CType → CType → Object Valuing → Object Valuing → Given Valuing → Scope → State → Outcome TypedNumber
     lib_compare line weak success failure ctype expected a' x' h scope st = and_then (means.located a' scope calls st) (λ cell st. and_then (means.located x' scope calls st) (λ place st. and_then (lib.value_given h scope calls st) (λ v st.
-        operation line (op.CompareExchange cell success failure weak (record { ctype = expected; number = local_at st place }) (converted ctype v)) st (exchanged place))))
+        operation line (op.CompareExchange cell success failure weak (local_value expected st place) (converted ctype v)) st (exchanged place))))
 
     -- ---- compare-exchange: the place of the local lies above that of the atomic object
 
     comparing_runs : (line : ℕ) (weak : Bool) (success failure : Order) (a x : Object Coding) (a' x' : Object Valuing) (g : Given Coding) (h : Given Valuing) (scope : Scope) (stack : List Slot) → ObjectDo a a' → ObjectDo x x' → GivenDo g h
         → Pushes (pieces.joined (located a scope) (pieces.joined (located x scope) (with_instr (value_given g scope) (i.Compare line weak success failure (type_in a scope) (type_in x scope) (place_in a scope) (place_in x scope))))) stack stack
         (λ st. and_then (means.located a' scope calls st) (λ cell st. and_then (means.located x' scope calls st) (λ place st. and_then (lib.value_given h scope calls st) (λ v st.
-        operation line (op.CompareExchange cell success failure weak (record { ctype = type_in x scope; number = local_at st place }) (converted (type_in a scope) v)) st (exchanged place)))))
+        operation line (op.CompareExchange cell success failure weak (local_value (type_in x scope) st place) (converted (type_in a scope) v)) st (exchanged place)))))
     comparing_runs line weak success failure a x a' x' g h scope stack d dx dg =
         behind_object code callers answers calls a a' scope stack (pieces.joined (located x scope) (with_instr (value_given g scope) (i.Compare line weak success failure (type_in a scope) (type_in x scope) (place_in a scope) (place_in x scope))))
         (λ cell st. and_then (means.located x' scope calls st) (λ place st. and_then (lib.value_given h scope calls st) (λ v st.
-        operation line (op.CompareExchange cell success failure weak (record { ctype = type_in x scope; number = local_at st place }) (converted (type_in a scope) v)) st (exchanged place)))) d
+        operation line (op.CompareExchange cell success failure weak (local_value (type_in x scope) st place) (converted (type_in a scope) v)) st (exchanged place)))) d
         (λ n held. runs_joined code callers answers (PlaceHeld (place_in x scope)) Any (located x scope) (with_instr (value_given g scope) (i.Compare line weak success failure (type_in a scope) (type_in x scope) (place_in a scope) (place_in x scope)))
         (stacked (place_in a scope) n stack) (λ m. stacked (place_in x scope) m (stacked (place_in a scope) n stack)) (pushed code callers answers stack) (means.located x' scope calls)
-        (λ place st. and_then (lib.value_given h scope calls st) (λ v st. operation line (op.CompareExchange n success failure weak (record { ctype = type_in x scope; number = local_at st place }) (converted (type_in a scope) v)) st (exchanged place)))
+        (λ place st. and_then (lib.value_given h scope calls st) (λ v st. operation line (op.CompareExchange n success failure weak (local_value (type_in x scope) st place) (converted (type_in a scope) v)) st (exchanged place)))
         (object_sized code callers answers calls x x' scope dx) (located_runs code callers answers calls x x' scope (stacked (place_in a scope) n stack) dx)
         (λ m held'. behind_value code callers answers calls (value_given g) (lib.value_given h) scope (stacked (place_in x scope) m (stacked (place_in a scope) n stack)) stack
         (plain (i.Compare line weak success failure (type_in a scope) (type_in x scope) (place_in a scope) (place_in x scope) ∷ []))
-        (λ v st. operation line (op.CompareExchange n success failure weak (record { ctype = type_in x scope; number = local_at st m }) (converted (type_in a scope) v)) st (exchanged m)) (given_does g h dg)
+        (λ v st. operation line (op.CompareExchange n success failure weak (local_value (type_in x scope) st m) (converted (type_in a scope) v)) st (exchanged m)) (given_does g h dg)
         (λ v. runs_instr code callers answers Any (i.Compare line weak success failure (type_in a scope) (type_in x scope) (place_in a scope) (place_in x scope)) (slot.Value v ∷ stacked (place_in x scope) m (stacked (place_in a scope) n stack)) (pushed code callers answers stack)
-        (λ st. operation line (op.CompareExchange n success failure weak (record { ctype = type_in x scope; number = local_at st m }) (converted (type_in a scope) v)) st (exchanged m))
+        (λ st. operation line (op.CompareExchange n success failure weak (local_value (type_in x scope) st m) (converted (type_in a scope) v)) st (exchanged m))
         (λ b st. on_stacked (place_in x scope) m (stacked (place_in a scope) n stack) _ held' ∙ on_stacked (place_in a scope) n stack _ held)
         (λ most st le. keeps_operation most Any line _ st _ le (λ r after le. keeps_exchanged most m r after le)))))
 
@@ -364,7 +364,7 @@ module _ (code : Whole) (callers : List Caller) (answers : Option CType) where
         → Runs code callers answers Any (handle_read line (given_object g) scope) stack (pushed code callers answers stack) (lib.handle_read (given_object h) scope calls)
     handle_read_pushes line g h scope stack dg = let place = handle_place (given_object g) scope in
         runs_joined code callers answers (PlaceHeld place) Any (handle_located (given_object g) scope) (plain (i.Read line Local Long place ∷ [])) stack (λ n. stacked place n stack) (pushed code callers answers stack)
-        (lib.handle_located (given_object h) scope calls) (λ n st. Gives (record { ctype = Long; number = local_at st n }) st)
+        (lib.handle_located (given_object h) scope calls) (λ n st. Gives (local_value Long st n) st)
         (handle_sized (given_object g) (given_object h) scope (given_named code callers answers calls g h dg)) (handle_runs (given_object g) (given_object h) scope stack (given_named code callers answers calls g h dg))
         (λ n held. runs_read code callers answers Local Long line place n stack held)
 
@@ -375,12 +375,12 @@ module _ (code : Whole) (callers : List Caller) (answers : Option CType) where
           (sized_joined (answer_located a scope) (plain (join ∷ [])) (answer_sized a a' scope da) (sized_plain (join ∷ [])));
       does = λ scope stack. let join = i.Join line (answer_place a scope) in
           runs_joined code callers answers Any Any (handle_read line (given_object g) scope) (with_instr (answer_located a scope) join) stack (pushed code callers answers stack) (pushed code callers answers stack)
-          (lib.handle_read (given_object h) scope calls) (λ thread st. and_then (lib.answer_place a' scope calls st) (λ answer st. operation line (op.Join (unsigned_abs thread.number)) st (joined answer)))
+          (lib.handle_read (given_object h) scope calls) (λ thread st. and_then (lib.answer_place a' scope calls st) (λ answer st. operation line (op.Join (thread_of thread)) st (joined answer)))
           (handle_read_sized line g h scope dg) (handle_read_pushes line g h scope stack dg)
           (λ v any. runs_joined code callers answers (AnswerHeld (answer_place a scope)) Any (answer_located a scope) (plain (join ∷ [])) (slot.Value v ∷ stack)
           (λ m. answer_stacked (answer_place a scope) m (slot.Value v ∷ stack)) (pushed code callers answers stack) (lib.answer_place a' scope calls)
-          (λ answer st. operation line (op.Join (unsigned_abs v.number)) st (joined answer)) (answer_sized a a' scope da) (answer_runs a a' scope (slot.Value v ∷ stack) da)
-          (λ m held'. runs_instr code callers answers Any join (answer_stacked (answer_place a scope) m (slot.Value v ∷ stack)) (pushed code callers answers stack) (λ st. operation line (op.Join (unsigned_abs v.number)) st (joined m))
+          (λ answer st. operation line (op.Join (thread_of v)) st (joined answer)) (answer_sized a a' scope da) (answer_runs a a' scope (slot.Value v ∷ stack) da)
+          (λ m held'. runs_instr code callers answers Any join (answer_stacked (answer_place a scope) m (slot.Value v ∷ stack)) (pushed code callers answers stack) (λ st. operation line (op.Join (thread_of v)) st (joined m))
           (λ b st. on_answer_stacked (answer_place a scope) m (slot.Value v ∷ stack) _ held')
           (λ most st le. keeps_operation most Any line _ st _ le (λ r after le. keeps_joined most m r after le))));
     }

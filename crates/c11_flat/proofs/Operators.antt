@@ -19,16 +19,16 @@ use Rattle.c11_meaning.specs.Objects.{is_zero}
 use Rattle.c11_meaning.specs.Parts.{Part, Linked}
 use Rattle.c11_meaning.specs.Expressions.{Calls, Valuing, choosing, truth_of, prefixed, cast}
 use Rattle.c11_meaning.specs.Expressions as means
-use Rattle.c11_machine.specs.declared.instr.Instr.{Instr}
-use Rattle.c11_machine.specs.declared.instr.Instr.TheVariants as i
-use Rattle.c11_machine.specs.declared.slot.Slot.{Slot}
-use Rattle.c11_machine.specs.declared.slot.Slot.TheVariants as slot
-use Rattle.c11_machine.specs.Pieces.{Piece, Coding, plain, joined, with_instr, chosen, typed_as, branch, condition, right_truth, infixed, chained}
-use Rattle.c11_machine.specs.Code.{Whole}
-use Rattle.c11_machine.specs.Flat.{Caller, Next, To, Halts, jumping, act_at}
-use Rattle.c11_machine.proofs.Follows.{Keeps, Follows, follows_step, reaches_on, IsSized, sized_plain, sized_joined, has_front, has_back, config, Runs, moved, runs_joined, runs_instr, runs_none, runs_same}
-use Rattle.c11_machine.proofs.Parts.{Any, ValueDoes, PartDoes, linked, AllLinks, nil, cons}
-use Rattle.c11_machine.proofs.Objects.{keeps_computed, from_gives, pushed, runs_push, runs_compute, behind_value}
+use Rattle.c11_flat.specs.declared.instr.Instr.{Instr}
+use Rattle.c11_flat.specs.declared.instr.Instr.TheVariants as i
+use Rattle.c11_flat.specs.declared.slot.Slot.{Slot}
+use Rattle.c11_flat.specs.declared.slot.Slot.TheVariants as slot
+use Rattle.c11_flat.specs.Pieces.{Piece, Coding, plain, joined, with_instr, chosen, typed_as, branch, condition, right_truth, infixed, chained}
+use Rattle.c11_flat.specs.Code.{Whole}
+use Rattle.c11_flat.specs.Flat.{Caller, Next, To, Halts, jumping, act_at}
+use Rattle.c11_flat.proofs.Follows.{Keeps, Follows, follows_step, reaches_on, IsSized, sized_plain, sized_joined, has_front, has_back, config, Runs, moved, runs_joined, runs_instr, runs_none, runs_same}
+use Rattle.c11_flat.proofs.Parts.{Any, ValueDoes, PartDoes, linked, AllLinks, nil, cons}
+use Rattle.c11_flat.proofs.Objects.{keeps_computed, from_gives, pushed, runs_push, runs_compute, behind_value}
 
 -- ---- sizes
 

@@ -1,3 +1,4 @@
+use crate::span::Span;
 use c11_ast::{CastTo, Prefix};
 use c11_events::Order;
 use c11_num::{BinaryOp, Bytes, CType, CValue, RmwKind};
@@ -7,13 +8,6 @@ use c11_num::{BinaryOp, Bytes, CType, CValue, RmwKind};
 pub enum Place {
     At(u32),
     OnStack,
-}
-
-/// An array: its first place, cell or mutex, and how many it has.
-#[derive(Clone, Copy, Debug)]
-pub struct Span {
-    pub base: u32,
-    pub size: u32,
 }
 
 /// What keeps an object that is not atomic.

@@ -24,19 +24,19 @@ use Rattle.c11_meaning.specs.Objects as meaning
 use Rattle.c11_meaning.specs.Parts.{Object, line_of, entity_of}
 use Rattle.c11_meaning.specs.Expressions.{Calls, Valuing}
 use Rattle.c11_meaning.specs.Expressions as means
-use Rattle.c11_machine.specs.declared.instr.Instr.{Instr}
-use Rattle.c11_machine.specs.declared.instr.Instr.TheVariants as i
-use Rattle.c11_machine.specs.declared.instr.Place.{Place}
-use Rattle.c11_machine.specs.declared.instr.Place.TheVariants.{At, OnStack}
-use Rattle.c11_machine.specs.declared.instr.Storage.{Storage}
-use Rattle.c11_machine.specs.declared.instr.Storage.TheVariants.{Local, Plain}
-use Rattle.c11_machine.specs.declared.slot.Slot.{Slot}
-use Rattle.c11_machine.specs.declared.slot.Slot.TheVariants as slot
-use Rattle.c11_machine.specs.Pieces.{Piece, Coding, plain, joined, place_by, place_in, element_instr, located, located_by, dropped, read_code, write_code, compound, step, reading, assigning, stepping}
-use Rattle.c11_machine.specs.Code.{Whole}
-use Rattle.c11_machine.specs.Flat.{Caller, Next, To, from, on_place, at_place, read_at, write_at, act}
-use Rattle.c11_machine.proofs.Follows.{Keeps, keeps_operation, keeps_stop, keeps_then, IsSized, sized_plain, sized_joined, config, Runs, runs_joined, runs_instr, runs_none, runs_step, runs_same, runs_cons}
-use Rattle.c11_machine.proofs.Parts.{Any, ValueDoes, ObjectDoes, named, indexed}
+use Rattle.c11_flat.specs.declared.instr.Instr.{Instr}
+use Rattle.c11_flat.specs.declared.instr.Instr.TheVariants as i
+use Rattle.c11_flat.specs.declared.instr.Place.{Place}
+use Rattle.c11_flat.specs.declared.instr.Place.TheVariants.{At, OnStack}
+use Rattle.c11_flat.specs.declared.instr.Storage.{Storage}
+use Rattle.c11_flat.specs.declared.instr.Storage.TheVariants.{Local, Plain}
+use Rattle.c11_flat.specs.declared.slot.Slot.{Slot}
+use Rattle.c11_flat.specs.declared.slot.Slot.TheVariants as slot
+use Rattle.c11_flat.specs.Pieces.{Piece, Coding, plain, joined, place_by, place_in, element_instr, located, located_by, dropped, read_code, write_code, compound, step, reading, assigning, stepping}
+use Rattle.c11_flat.specs.Code.{Whole}
+use Rattle.c11_flat.specs.Flat.{Caller, Next, To, from, on_place, at_place, read_at, write_at, act}
+use Rattle.c11_flat.proofs.Follows.{Keeps, keeps_operation, keeps_stop, keeps_then, IsSized, sized_plain, sized_joined, config, Runs, runs_joined, runs_instr, runs_none, runs_step, runs_same, runs_cons}
+use Rattle.c11_flat.proofs.Parts.{Any, ValueDoes, ObjectDoes, named, indexed}
 
 -- ---- what outcomes keep
 

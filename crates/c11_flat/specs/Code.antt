@@ -13,11 +13,11 @@ use Rattle.c11_check.specs.Scopes.{Scope, entered, size_in, taken, with_local, w
 use Rattle.c11_meaning.specs.Objects.{nothing, one}
 use Rattle.c11_meaning.specs.Statements.{Run, Armed, behind, arm_step, block_step, stmt_step}
 use Rattle.c11_meaning.specs.Asks.{Runnable, functions_of}
-use Rattle.c11_machine.specs.declared.instr.Instr.{Instr}
-use Rattle.c11_machine.specs.declared.instr.Instr.TheVariants as i
-use Rattle.c11_machine.specs.declared.instr.Place.TheVariants.{At}
-use Rattle.c11_machine.specs.declared.instr.Storage.TheVariants as storage
-use Rattle.c11_machine.specs.Pieces.{Piece, piece_of}
+use Rattle.c11_flat.specs.declared.instr.Instr.{Instr}
+use Rattle.c11_flat.specs.declared.instr.Instr.TheVariants as i
+use Rattle.c11_flat.specs.declared.instr.Place.TheVariants.{At}
+use Rattle.c11_flat.specs.declared.instr.Storage.TheVariants as storage
+use Rattle.c11_flat.specs.Pieces.{Piece, piece_of}
 
 -- of a statement: how many instructions, and which, from where it begins and where a `break` and a `continue` go
 pub record Strip : Type 0 where

@@ -21,19 +21,19 @@ use Rattle.c11_meaning.specs.Objects.{nothing, one, is_zero, element, updated, s
 use Rattle.c11_meaning.specs.Expressions.{prefixed}
 use Rattle.c11_meaning.specs.Library.{when_locked, tried, created, exchanged, joined}
 use Rattle.c11_meaning.specs.Statements.{cleared}
-use Rattle.c11_machine.specs.declared.instr.Instr.{Instr}
-use Rattle.c11_machine.specs.declared.instr.Instr.TheVariants as i
-use Rattle.c11_machine.specs.declared.instr.Place.{Place}
-use Rattle.c11_machine.specs.declared.instr.Place.TheVariants.{At, OnStack}
-use Rattle.c11_machine.specs.declared.instr.Storage.{Storage}
-use Rattle.c11_machine.specs.declared.instr.Storage.TheVariants.{Local, Plain}
-use Rattle.c11_machine.specs.declared.instr.Acts.{Acts}
-use Rattle.c11_machine.specs.declared.instr.Acts.TheVariants as acts
-use Rattle.c11_machine.specs.declared.slot.Slot.{Slot}
-use Rattle.c11_machine.specs.declared.slot.Slot.TheVariants as slot
-use Rattle.c11_machine.specs.Code.{Whole, Start}
-use Rattle.c11_machine.specs.Law.{AReplyIsLeft}
-use Rattle.c11_machine.specs.Flat.{Caller, Config, Next, To, Says, Halts, from, on_value, on_slot, on_place, at_place, on_answer, popping, jumping, read_at, write_at, counting, mutex_act, entering, returning, answer_in, act, act_at, next, steps, first, beginning, asking, start}
+use Rattle.c11_flat.specs.declared.instr.Instr.{Instr}
+use Rattle.c11_flat.specs.declared.instr.Instr.TheVariants as i
+use Rattle.c11_flat.specs.declared.instr.Place.{Place}
+use Rattle.c11_flat.specs.declared.instr.Place.TheVariants.{At, OnStack}
+use Rattle.c11_flat.specs.declared.instr.Storage.{Storage}
+use Rattle.c11_flat.specs.declared.instr.Storage.TheVariants.{Local, Plain}
+use Rattle.c11_flat.specs.declared.instr.Acts.{Acts}
+use Rattle.c11_flat.specs.declared.instr.Acts.TheVariants as acts
+use Rattle.c11_flat.specs.declared.slot.Slot.{Slot}
+use Rattle.c11_flat.specs.declared.slot.Slot.TheVariants as slot
+use Rattle.c11_flat.specs.Code.{Whole, Start}
+use Rattle.c11_flat.specs.Law.{AReplyIsLeft}
+use Rattle.c11_flat.specs.Flat.{Caller, Config, Next, To, Says, Halts, from, on_value, on_slot, on_place, at_place, on_answer, popping, jumping, read_at, write_at, counting, mutex_act, entering, returning, answer_in, act, act_at, next, steps, first, beginning, asking, start}
 
 module _ (x : Reply) where
   abbrev pub later : State → State
