@@ -1,0 +1,4 @@
+pub mod Fine
+pub mod Named
+pub mod Calls
+pub mod Exprs
