@@ -43,22 +43,32 @@ last_snoc (x ∷ xs) n name = let this : Option Entity = if bytes_eq name x.name
 pub some_entity : (a b : Entity) → Some a ≡ Some b → a ≡ b
 some_entity a b is = ap (λ (o : Option Entity). unwrap_or o a) is
 
+-- what holds of all that names denote
+abbrev pub AllDenoted : (Entity → Type 0) → Scope → Type 0
+AllDenoted P scope = (name : List ℕ) (entity : Entity) → denoted scope name ≡ Some entity → P entity
+
+picked : (P : Entity → Type 0) (new entity : Entity) (here : Bool) (last library : Option Entity) → P new → (or_else last library ≡ Some entity → P entity)
+    → or_else (or_else (if here then Some new else None) last) library ≡ Some entity → P entity
+picked P new entity true last library holds rest is = subst P (some_entity new entity is) holds
+picked P new entity false last library holds rest is = rest is
+
+pub all_declared : (P : Entity → Type 0) (scope : Scope) (new : List ℕ) (entity : Entity) (counts : Counts) → P entity → AllDenoted P scope → AllDenoted P (declared scope new entity counts)
+all_declared P scope new entity counts holds rest name other is = picked P entity other (bytes_eq name new) (last_named scope.names name) (library_entity name) holds (rest name other)
+    (sym (ap (λ (o : Option Entity). or_else o (library_entity name)) (last_snoc scope.names (record { name = new; entity = entity }) name)) ∙ is)
+
+pub all_named : (P : Entity → Type 0) (one another : Scope) → another.names ≡ one.names → AllDenoted P one → AllDenoted P another
+all_named P one another same all name entity is = all name entity (sym (ap (λ (ns : List Named). or_else (last_named ns name) (library_entity name)) same) ∙ is)
+
 module _ (t : Tables) (fs : List Signature) where
   -- what each name denotes lies in the tables
   abbrev pub Lies : Scope → Type 0
-  Lies scope = (name : List ℕ) (entity : Entity) → denoted scope name ≡ Some entity → LiesIn t fs entity
-
-  picked : (new entity : Entity) (here : Bool) (last library : Option Entity) → LiesIn t fs new → (or_else last library ≡ Some entity → LiesIn t fs entity)
-      → or_else (or_else (if here then Some new else None) last) library ≡ Some entity → LiesIn t fs entity
-  picked new entity true last library lies rest is = subst (LiesIn t fs) (some_entity new entity is) lies
-  picked new entity false last library lies rest is = rest is
+  Lies scope = AllDenoted (LiesIn t fs) scope
 
   pub lies_declared : (scope : Scope) (new : List ℕ) (entity : Entity) (counts : Counts) → LiesIn t fs entity → Lies scope → Lies (declared scope new entity counts)
-  lies_declared scope new entity counts lies rest name other is = picked entity other (bytes_eq name new) (last_named scope.names name) (library_entity name) lies (rest name other)
-      (sym (ap (λ (o : Option Entity). or_else o (library_entity name)) (last_snoc scope.names (record { name = new; entity = entity }) name)) ∙ is)
+  lies_declared = all_declared (LiesIn t fs)
 
   pub lies_named : (one another : Scope) → another.names ≡ one.names → Lies one → Lies another
-  lies_named one another same lies name entity is = lies name entity (sym (ap (λ (ns : List Named). or_else (last_named ns name) (library_entity name)) same) ∙ is)
+  lies_named = all_named (LiesIn t fs)
 
   -- ---- a scope behind declarations of a function
 

@@ -1,6 +1,6 @@
 -- In a program without a fault names lie within the tables.
 use Rattle.std.proofs.Common.{◌≡◌, ℕ, zero, suc, ◌+◌, ◌<◌, ◌≤◌, Bool, true, false, List, [], ◌∷◌, ◌++◌, length, Option, Some, None, refl, sym, ap, ◌∙◌, subst, append_assoc, length-append, arith, true≢false}
-use Rattle.std.specs.Prelude.{slice_get, if◌then◌else◌, is_none, ◌&&◌, ◌||◌, ◌==◌, nat_lt, ◌^◌}
+use Rattle.std.specs.Prelude.{⊤, slice_get, if◌then◌else◌, is_none, ◌&&◌, ◌||◌, ◌==◌, nat_lt, ◌^◌}
 use Rattle.std.specs.Str.{bytes_eq}
 use Rattle.std.proofs.lemmas.List.{append-nil}
 use Rattle.c11_num.specs.Ranges.{TypedNumber}
@@ -36,7 +36,7 @@ use Rattle.c11_check.specs.Programs.{HasNoFault, limit_of, count_of, no_main, st
 use Rattle.c11_check.specs.Tables.{Tables, Declared, start_value, converted_or_zero, element_cells, object_cells, declare_var, declare_vars, declare_function, declare_item, declare_items, nothing_declared, tables_of}
 use Rattle.c11_check.specs.Lies.{signatures_in, HasCells, LiesIn, FaultlessLiesWithin}
 use Rattle.c11_check.proofs.Limits.{Counted, object_count, counted_var, counted_vars, counted_item, vars_functions, next_count}
-use Rattle.c11_check.proofs.Grown.{Lies, lies_declared, lies_named, grew_on, grew_params, names_left, some_entity, stmt_declares, block_declares}
+use Rattle.c11_check.proofs.Grown.{AllDenoted, all_declared, Lies, lies_declared, lies_named, grew_on, grew_params, names_left, some_entity, stmt_declares, block_declares}
 
 -- ---- lists of faults
 
@@ -54,12 +54,12 @@ when_nil true rule spot is = absurd cc
 
 -- ---- cells
 
-nth_front : {A : Type 0} (xs ys : List A) (n : ℕ) (x : A) → slice_get xs n ≡ Some x → slice_get (xs ++ ys) n ≡ Some x
+pub nth_front : {A : Type 0} (xs ys : List A) (n : ℕ) (x : A) → slice_get xs n ≡ Some x → slice_get (xs ++ ys) n ≡ Some x
 nth_front [] ys n x is = absurd cc
 nth_front (y ∷ xs) ys zero x is = is
 nth_front (y ∷ xs) ys (suc n) x is = nth_front xs ys n x is
 
-nth_back : {A : Type 0} (xs ys : List A) (k n : ℕ) → k ≡ length xs + n → slice_get (xs ++ ys) k ≡ slice_get ys n
+pub nth_back : {A : Type 0} (xs ys : List A) (k n : ℕ) → k ≡ length xs + n → slice_get (xs ++ ys) k ≡ slice_get ys n
 nth_back [] ys k n is = ap (slice_get ys) (omega (arith, is))
 nth_back (x ∷ xs) ys zero n is = absurd (omega (arith, is))
 nth_back (x ∷ xs) ys (suc k) n is = nth_back xs ys k n (omega (arith, is))
@@ -119,7 +119,7 @@ size_there None u starts is fits = absurd cc
 size_there (Some v) u starts is fits = positive (elements (Some v)) (nat_lt 65536 (elements (Some v)) || nat_lt (elements (Some v)) starts) fits
 
 -- an object without a fault has an element at least
-some_taken : (s : Scope) (size : Option Constant) (spot : Spot) (starts : ℕ) → size_faults s size ≡ [] → when (is_missized (size_value s size) starts) rule.Size spot ≡ [] → 0 < taken (size_in s size)
+pub some_taken : (s : Scope) (size : Option Constant) (spot : Spot) (starts : ℕ) → size_faults s size ≡ [] → when (is_missized (size_value s size) starts) rule.Size spot ≡ [] → 0 < taken (size_in s size)
 some_taken s None spot starts one other = omega arith
 some_taken s (Some c) spot starts one other = let known = known_there s c.value one in
     size_there (value_of_constant s c) (signed_value c.negative known.0) starts (ap (with_sign c.negative) known.1) (when_nil (is_missized (value_of_constant s c) starts) rule.Size spot other)
@@ -181,6 +181,28 @@ count_same (g.Plain ctype) s k = refl
 count_same (g.Atomic ctype) s k = refl
 count_same g.Mutex s k = refl
 
+-- what stands at file scope takes no place of a function
+abbrev pub IsGlobal : Entity → Type 0
+IsGlobal (e.Local ctype place size) = ⊥
+IsGlobal (e.Handle place size) = ⊥
+IsGlobal (e.Atomic ctype cell size) = ⊤
+IsGlobal (e.Plain ctype cell size) = ⊤
+IsGlobal (e.Mutex mutex size) = ⊤
+IsGlobal (e.Function function signature) = ⊤
+IsGlobal (e.Defined value) = ⊤
+IsGlobal (e.Library library) = ⊤
+IsGlobal (e.Constant constant) = ⊤
+IsGlobal (e.Order order) = ⊤
+
+global_var : (kind : GlobalKind) (var : Var) (d : Declared) → AllDenoted IsGlobal d.scope → AllDenoted IsGlobal (declare_var kind var d).scope
+global_var (g.Plain ctype) var d all = let name = var.place.word.name in let size = size_in d.scope var.place.size in all_declared IsGlobal d.scope name (e.Plain ctype d.scope.counts.plains size) (with_global d.scope name (g.Plain ctype) size).counts tt all
+global_var (g.Atomic ctype) var d all = let name = var.place.word.name in let size = size_in d.scope var.place.size in all_declared IsGlobal d.scope name (e.Atomic ctype d.scope.counts.atomics size) (with_global d.scope name (g.Atomic ctype) size).counts tt all
+global_var g.Mutex var d all = let name = var.place.word.name in let size = size_in d.scope var.place.size in all_declared IsGlobal d.scope name (e.Mutex d.scope.counts.mutexes size) (with_global d.scope name g.Mutex size).counts tt all
+
+global_vars : (kind : GlobalKind) (vars : List Var) (d : Declared) → AllDenoted IsGlobal d.scope → AllDenoted IsGlobal (declare_vars kind vars d).scope
+global_vars kind [] d all = all
+global_vars kind (x ∷ xs) d all = global_vars kind xs (declare_var kind x d) (global_var kind x d all)
+
 module _ (t : Tables) (fs : List Signature) where
   lies_var : (kind : GlobalKind) (var : Var) (d : Declared) (k : ℕ) → Counted d → Lies t fs d.scope → (var_walk kind var (with_places d.scope k)).faults ≡ [] → Before (declare_var kind var d).tables t
       → Lies t fs (declare_var kind var d).scope
@@ -232,6 +254,7 @@ module _ (t : Tables) (fs : List Signature) where
   pub record At (d : Declared) (k : ℕ) (items : List Item) : Type 0 where
     pub counted : Counted d
     pub lies : Lies t fs d.scope
+    pub global : AllDenoted IsGlobal d.scope
     pub faultless : (items_walk items (with_places d.scope k)).faults ≡ []
     pub later : Before (declare_items items d).tables t
     pub earlier : List Signature
@@ -246,8 +269,11 @@ module _ (t : Tables) (fs : List Signature) where
   function_lies f items d k at = let n = d.scope.counts.functions in lies_declared t fs d.scope f.word.name (e.Function n (signature_of f)) (with_function d.scope f).counts
       (ap (λ (xs : List Signature). slice_get xs n) at.signatures ∙ nth_here at.earlier (signatures_in items) (signature_of f) n at.number) at.lies
 
+  pub global_function : (f : Function) (d : Declared) → AllDenoted IsGlobal d.scope → AllDenoted IsGlobal (with_function d.scope f)
+  global_function f d all = all_declared IsGlobal d.scope f.word.name (e.Function d.scope.counts.functions (signature_of f)) (with_function d.scope f).counts tt all
+
   -- the scope behind a function is the one before its body
-  function_scope : (f : Function) (s : Scope) → (k : ℕ) × ((function_walk f s).scope ≡ with_places (with_function s f) k)
+  pub function_scope : (f : Function) (s : Scope) → (k : ℕ) × ((function_walk f s).scope ≡ with_places (with_function s f) k)
   function_scope f s =
       let outer = with_function s f in let first = (params_walk f.params (entered_function outer)).scope in
       let inner = (walk_of_block f.body (record { answers = f.answers; in_loop = false }) first).scope in
@@ -269,7 +295,7 @@ module _ (t : Tables) (fs : List Signature) where
   behind_item : (x : Item) (items : List Item) (d : Declared) (k : ℕ) → At d k (x ∷ items) → Behind x items d k
   behind_item (item.Include spot) items d k at = record {
     places = k;
-    at = record { counted = at.counted; lies = at.lies; faultless = at.faultless; later = at.later; earlier = at.earlier; signatures = at.signatures; number = at.number; room = let r = at.room in omega (arith, r) };
+    at = record { counted = at.counted; lies = at.lies; global = at.global; faultless = at.faultless; later = at.later; earlier = at.earlier; signatures = at.signatures; number = at.number; room = let r = at.room in omega (arith, r) };
     scope = refl;
   }
   behind_item (item.Define spot word value) items d k at = record {
@@ -277,6 +303,7 @@ module _ (t : Tables) (fs : List Signature) where
     at = record {
       counted = counted_item (item.Define spot word value) d at.counted;
       lies = lies_declared t fs d.scope word.name (e.Defined value) d.scope.counts tt at.lies;
+      global = all_declared IsGlobal d.scope word.name (e.Defined value) d.scope.counts tt at.global;
       faultless = no_more (item.Define spot word value) items (with_places d.scope k) _ refl at.faultless;
       later = at.later;
       earlier = at.earlier;
@@ -295,6 +322,7 @@ module _ (t : Tables) (fs : List Signature) where
         at = record {
           counted = counted_vars kind vars d at.counted;
           lies = walked.0;
+          global = global_vars kind vars d at.global;
           faultless = no_more (item.Global spot kind vars) items s _ walked.1 at.faultless;
           later = at.later;
           earlier = at.earlier;
@@ -311,6 +339,7 @@ module _ (t : Tables) (fs : List Signature) where
         at = record {
           counted = counted_item (item.Function f) d at.counted;
           lies = function_lies f items d k at;
+          global = global_function f d at.global;
           faultless = no_more (item.Function f) items s _ walked.1 at.faultless;
           later = at.later;
           earlier = at.earlier ++ signature_of f ∷ [];
@@ -378,6 +407,18 @@ word_lies t fs (e.Mutex mutex size) is = absurd (true≢false (sym is))
 word_lies t fs (e.Function function signature) is = absurd (true≢false (sym is))
 word_lies t fs (e.Defined value) is = absurd (true≢false (sym is))
 
+word_global : (entity : Entity) → is_word entity ≡ true → IsGlobal entity
+word_global (e.Library library) is = tt
+word_global (e.Constant constant) is = tt
+word_global (e.Order order) is = tt
+word_global (e.Local ctype place size) is = absurd (true≢false (sym is))
+word_global (e.Handle place size) is = absurd (true≢false (sym is))
+word_global (e.Atomic ctype cell size) is = tt
+word_global (e.Plain ctype cell size) is = tt
+word_global (e.Mutex mutex size) is = tt
+word_global (e.Function function signature) is = tt
+word_global (e.Defined value) is = tt
+
 -- ---- the law
 
 -- what is known before the first item
@@ -385,6 +426,7 @@ pub at_first : (program : Program) → length program.items < 2 ^ 32 → HasNoFa
 at_first program few clean = record {
   counted = record { atomics = refl; plains = refl; mutexes = refl; functions = refl; atomic_room = omega arith; plain_room = omega arith; mutex_room = omega arith; function_room = omega arith };
   lies = λ name entity is. word_lies (tables_of program) (signatures_in program.items) entity (library_word name entity is);
+  global = λ name entity is. word_global entity (library_word name entity is);
   faultless = nil_back (no_main program.items) (items_walk program.items file_scope).faults clean;
   later = before_same (tables_of program);
   earlier = [];
