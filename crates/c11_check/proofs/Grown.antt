@@ -91,7 +91,7 @@ module _ (t : Tables) (fs : List Signature) where
     kept = λ lies. h.kept (g.kept lies);
   }
 
-  grew_local : (s : Scope) (name : List ℕ) (ctype : CType) (size : Option ℕ) → Grew s (with_local s name ctype size)
+  pub grew_local : (s : Scope) (name : List ℕ) (ctype : CType) (size : Option ℕ) → Grew s (with_local s name ctype size)
   grew_local s name ctype size = record {
     more = record { name = name; entity = e.Local ctype s.counts.places size } ∷ [];
     names = refl;
@@ -100,7 +100,7 @@ module _ (t : Tables) (fs : List Signature) where
     kept = λ lies. lies_declared s name (e.Local ctype s.counts.places size) (with_local s name ctype size).counts tt lies;
   }
 
-  grew_handle : (s : Scope) (name : List ℕ) (size : Option ℕ) → Grew s (with_handle s name size)
+  pub grew_handle : (s : Scope) (name : List ℕ) (size : Option ℕ) → Grew s (with_handle s name size)
   grew_handle s name size = record {
     more = record { name = name; entity = e.Handle s.counts.places size } ∷ [];
     names = refl;
@@ -128,7 +128,7 @@ module _ (t : Tables) (fs : List Signature) where
   pub names_left : (s inner : Scope) (more : List Named) → inner.names ≡ s.names ++ more → take (length s.names) inner.names ≡ s.names
   names_left s inner more is = ap (take (length s.names)) is ∙ take-append_seam s.names more
 
-  grew_inside : (s inner : Scope) → Grew (entered s) inner → Grew s (left_for s inner)
+  pub grew_inside : (s inner : Scope) → Grew (entered s) inner → Grew s (left_for s inner)
   grew_inside s inner g = record {
     more = [];
     names = names_left s inner g.more g.names ∙ sym (append-nil s.names);

@@ -4,3 +4,8 @@ pub mod Calls
 pub mod Exprs
 pub mod Stmts
 pub mod Threads
+pub mod Awaiting
+pub mod Going
+pub mod Called
+pub mod Flowing
+pub mod Again

@@ -13,7 +13,7 @@ use Rattle.c11_ast.specs.declared.stmt.Stmt.{Stmt, roll-Stmt}
 use Rattle.c11_ast.specs.declared.stmt.Arm.{Arm, roll-Arm}
 use Rattle.c11_ast.specs.declared.stmt.Block.{Block, roll-Block}
 use Rattle.c11_ast.specs.declared.stmt.Stmt.TheOpen.{Stmt-F, Arm-F, Block-F}
-use Rattle.c11_ast.specs.declared.stmt.Stmt.TheFolds.{fold-Stmt, fold-Arm, map-Stmt, map-Arm, map-Block, ind-Block, fold-roll-Stmt, fold-roll-Arm, fold-roll-Block}
+use Rattle.c11_ast.specs.declared.stmt.Stmt.TheFolds.{fold-Stmt, fold-Arm, map-Stmt, map-Arm, map-Block, ind-Stmt, ind-Block, fold-roll-Stmt, fold-roll-Arm, fold-roll-Block}
 use Rattle.c11_events.specs.declared.op.StopKind.TheVariants as stop
 use Rattle.c11_check.specs.declared.around.Around.{Around}
 use Rattle.c11_check.specs.declared.entity.Counts.{Counts}
@@ -102,6 +102,12 @@ declarator_clean scope place clean =
       some_taken scope place.size place.word.spot 0 (nil_front (size_faults scope place.size) (missized scope place 0 ++ room) one) (nil_front (missized scope place 0) room two),
       when_nil (passes place_limit scope.counts.places (size_in scope place.size)) rule.TooMany place.word.spot (nil_back (missized scope place 0) room two),
     )
+
+abbrev pub stmt_runs : Stmt → Run Running
+stmt_runs = fold-Stmt (Run Running) (Armed Running) (Run Running) (stmt_step run_step) arm_step (block_step in_order)
+
+abbrev pub arm_runs : Arm → Armed Running
+arm_runs = fold-Arm (Run Running) (Armed Running) (Run Running) (stmt_step run_step) arm_step (block_step in_order)
 
 module _ (w : World) where
   abbrev FlowFine : List Bool → Outcome Flow → Type 0
@@ -447,12 +453,6 @@ module _ (w : World) where
 
   -- ---- along the tree
 
-  abbrev stmt_runs : Stmt → Run Running
-  stmt_runs = fold-Stmt (Run Running) (Armed Running) (Run Running) (stmt_step run_step) arm_step (block_step in_order)
-
-  abbrev arm_runs : Arm → Armed Running
-  arm_runs = fold-Arm (Run Running) (Armed Running) (Run Running) (stmt_step run_step) arm_step (block_step in_order)
-
   abbrev IsStmt : Stmt → Type 0
   IsStmt x = RunFine (walk_of x) (stmt_runs x)
 
@@ -576,6 +576,12 @@ module _ (w : World) where
 
   pub block_is_fine : (x : Block) → RunFine (walk_of_block x) (run_of_block x)
   block_is_fine = ind-Block IsStmt ArmIs IsBlock
+      (λ x y is. rolled_stmt x (subst (λ (z : Stmt-F Stmt Arm Block). RunFine (stmt_walked z) (stmt_in_meaning z)) is (stmt_layer y)))
+      (λ x y is. rolled_arm x (subst (λ (z : Arm-F Stmt Arm Block). ArmLaid (arm_walked z) (arm_in_meaning z)) is (arm_layer y)))
+      (λ x y is. rolled_block x (subst (λ (z : Block-F Stmt Arm Block). RunFine (block_walked z) (block_in_meaning z)) is (block_layer y)))
+
+  pub stmt_is_fine : (x : Stmt) → RunFine (walk_of x) (stmt_runs x)
+  stmt_is_fine = ind-Stmt IsStmt ArmIs IsBlock
       (λ x y is. rolled_stmt x (subst (λ (z : Stmt-F Stmt Arm Block). RunFine (stmt_walked z) (stmt_in_meaning z)) is (stmt_layer y)))
       (λ x y is. rolled_arm x (subst (λ (z : Arm-F Stmt Arm Block). ArmLaid (arm_walked z) (arm_in_meaning z)) is (arm_layer y)))
       (λ x y is. rolled_block x (subst (λ (z : Block-F Stmt Arm Block). RunFine (block_walked z) (block_in_meaning z)) is (block_layer y)))

@@ -94,7 +94,7 @@ module _ (w : World) where
   body_fine r fine values calls called st known =
       ((block_is_fine w r.function.body).strip.goes fine.owners calls called (of_function r.function) r.scope fine.post fine.fits (fine.knows calls) fine.clean).runs (record st { locals = first_locals r values }) (good_start r fine values st known)
 
-  AllFine : List Runnable → Type 0
+  abbrev pub AllFine : List Runnable → Type 0
   AllFine functions = (n : ℕ) (r : Runnable) → slice_get functions n ≡ Some r → FunctionFine r
 
   good_none : (st : State) → AllKnown w st.replies → Good w [] st
@@ -109,7 +109,6 @@ module _ (w : World) where
   called_fine (Some r) values calls fine all st known = fine_bind w (body_fine r (all r refl) values calls fine st known) (λ flow after good. Fine.gives (refl, good.replies))
 
   calls_fine : (functions : List Runnable) (room : ℕ) → AllFine functions → CallsFine w (calls_of functions room)
-  unfolding AllFine
   calls_fine functions zero all line number values st known = fine_counting w [] _ st.turns line st _ (good_none st known) (λ m. fine_stop w _ line Depth (record st { turns = m }) known)
   calls_fine functions (suc room) all line number values st known = fine_counting w [] _ st.turns line st _ (good_none st known)
       (λ m. called_fine (slice_get functions number) values (calls_of functions room) (calls_fine functions room all) (all number) (record st { turns = m }) known)
@@ -123,7 +122,6 @@ module _ (w : World) where
       fine_operation w fine.owners _ (end_line r.function flow) (op.End (end_value r.function flow)) st _ tt good (λ r st good is. Fine.over))
 
   begun_fine : (functions : List Runnable) → AllFine functions → (r : Reply) (st : State) → AllKnown w st.replies → Fine w (λ (value : TypedNumber) after. ⊤) (begun functions r st)
-  unfolding AllFine
   begun_fine functions all (reply.Began function argument) st known = thread_fine functions all (slice_get functions function) (all function) argument st known
   begun_fine functions all reply.Done st known = Fine.over
   begun_fine functions all (reply.Value v) st known = Fine.over
@@ -213,11 +211,10 @@ found_in (item.Global spot kind vars ∷ items) scope n r is = later_found (item
 found_in (item.Function f ∷ items) scope zero r is = record { before = []; after = items; function = f; items_are = refl; is = sym (ap (λ (o : Option Runnable). unwrap_or o r) is) }
 found_in (item.Function f ∷ items) scope (suc n) r is = later_found (item.Function f) items scope r (found_in items (item_walk (item.Function f) scope).scope n r is)
 
-abbrev world_of : Program → List Reply → World
+abbrev pub world_of : Program → List Reply → World
 world_of program replies = record { tables = tables_of program; functions = signatures_in program.items; replies = replies }
 
-all_fine : (program : Program) (replies : List Reply) → length program.items < 2 ^ 32 → HasNoFault program → AllFine (world_of program replies) (functions_of program)
-unfolding AllFine
+pub all_fine : (program : Program) (replies : List Reply) → length program.items < 2 ^ 32 → HasNoFault program → AllFine (world_of program replies) (functions_of program)
 all_fine program replies few clean n r is =
     let w = world_of program replies in let found = found_in program.items file_scope n r is in let f = found.function in
     let there = reached_in program few clean found.before (item.Function f ∷ found.after) found.items_are in

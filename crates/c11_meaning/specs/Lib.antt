@@ -6,5 +6,6 @@ pub mod Library
 pub mod Objects
 pub mod Outcome
 pub mod Parts
+pub mod Progress
 pub mod Prints
 pub mod Statements
