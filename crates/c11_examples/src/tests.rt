@@ -1,3 +1,5 @@
+mod steps;
+
 use c11_events::{Event, EventKind, Op, Order};
 use c11_num::{CType, CValue, NoMemory, RmwKind};
 use c11_plain::{
