@@ -1,0 +1,92 @@
+-- Calls of the library in three steps: whether the arguments have the form that the function takes, the code of its operands, and the
+-- instructions behind them.
+use Rattle.std.specs.Prelude.{ℕ, Bool, true, false, ◌&&◌, List, [], ◌∷◌, ◌++◌, length}
+use Rattle.c11_num.specs.declared.value.CType.{CType}
+use Rattle.c11_num.specs.declared.value.CType.TheVariants.{Int}
+use Rattle.c11_ast.specs.declared.expr.CastTo.TheVariants as to
+use Rattle.c11_check.specs.declared.library.Library.{Library}
+use Rattle.c11_check.specs.declared.library.Library.TheVariants as l
+use Rattle.c11_check.specs.Scopes.{Scope}
+use Rattle.c11_meaning.specs.Objects.{nothing}
+use Rattle.c11_meaning.specs.Parts.{Given, Address, Text, given_object, given_entity, order_in, second_order_in, function_named}
+use Rattle.c11_flat.specs.declared.instr.Instr.{Instr}
+use Rattle.c11_flat.specs.declared.instr.Instr.TheVariants as i
+use Rattle.c11_flat.specs.declared.instr.Place.{Place}
+use Rattle.c11_flat.specs.declared.instr.Place.TheVariants.{At}
+use Rattle.c11_flat.specs.declared.instr.Acts.TheVariants as acts
+use Rattle.c11_flat.specs.Pieces.{Coding, plain, joined, dropped, place_in, type_in, answer_located, answer_place, handle_read, value_given, values_given}
+
+abbrev pub Givens : Type 0
+Givens = List (Given Coding)
+
+abbrev pub is_address : Given Coding → Bool
+is_address (Address object) = true
+is_address _ = false
+
+abbrev pub is_text : Given Coding → Bool
+is_text (Text bytes) = true
+is_text _ = false
+
+-- the arguments have the form that the function takes
+abbrev pub fits : Library → Givens → Bool
+fits (l.Load explicit) (a ∷ orders) = is_address a
+fits (l.Store explicit) (a ∷ value ∷ orders) = is_address a
+fits (l.ReadWrite kind explicit) (a ∷ value ∷ orders) = is_address a
+fits (l.CompareExchange weak explicit) (a ∷ expected ∷ value ∷ orders) = is_address a && is_address expected
+fits l.Fence givens = true
+fits l.MutexInit (m ∷ rest) = is_address m
+fits l.MutexLock (m ∷ rest) = is_address m
+fits l.MutexTryLock (m ∷ rest) = is_address m
+fits l.MutexUnlock (m ∷ rest) = is_address m
+fits l.MutexDestroy (m ∷ rest) = is_address m
+fits l.Create (handle ∷ function ∷ value ∷ rest) = is_address handle
+fits l.Join (handle ∷ answer ∷ rest) = true
+fits l.Assert (value ∷ rest) = true
+fits l.Print (text ∷ rest) = is_text text
+fits _ _ = false
+
+-- where the object behind an `&` is
+abbrev pub place_given : Given Coding → Scope → Place
+place_given (Address object) scope = place_in object scope
+place_given _ scope = At 0
+
+abbrev pub type_given : Given Coding → Scope → CType
+type_given (Address object) scope = type_in object scope
+type_given _ scope = Int
+
+-- of arguments that fit, what is on the stack before the instructions
+abbrev pub operands : Library → ℕ → Givens → Coding
+operands (l.Load explicit) line (a ∷ orders) scope = answer_located a scope
+operands (l.Store explicit) line (a ∷ value ∷ orders) scope = joined (answer_located a scope) (value_given value scope)
+operands (l.ReadWrite kind explicit) line (a ∷ value ∷ orders) scope = joined (answer_located a scope) (value_given value scope)
+operands (l.CompareExchange weak explicit) line (a ∷ expected ∷ value ∷ orders) scope =
+    joined (answer_located a scope) (joined (answer_located expected scope) (value_given value scope))
+operands l.MutexInit line (m ∷ rest) scope = answer_located m scope
+operands l.MutexLock line (m ∷ rest) scope = answer_located m scope
+operands l.MutexTryLock line (m ∷ rest) scope = answer_located m scope
+operands l.MutexUnlock line (m ∷ rest) scope = answer_located m scope
+operands l.MutexDestroy line (m ∷ rest) scope = answer_located m scope
+operands l.Create line (handle ∷ function ∷ value ∷ rest) scope = joined (answer_located handle scope) (value_given value scope)
+operands l.Join line (handle ∷ answer ∷ rest) scope = joined (handle_read line (given_object handle) scope) (answer_located answer scope)
+operands l.Assert line (value ∷ rest) scope = value_given value scope
+operands l.Print line (text ∷ rest) scope = values_given rest scope
+operands _ line givens scope = plain []
+
+-- of arguments that fit, the instructions behind the operands
+abbrev pub finals : Library → ℕ → Givens → Scope → List Instr
+finals (l.Load explicit) line (a ∷ orders) scope = i.Load line (order_in orders scope) (place_given a scope) ∷ []
+finals (l.Store explicit) line (a ∷ value ∷ orders) scope = i.Store line (order_in orders scope) (type_given a scope) (place_given a scope) ∷ i.Cast to.Void ∷ []
+finals (l.ReadWrite kind explicit) line (a ∷ value ∷ orders) scope = i.Modify line (order_in orders scope) kind (type_given a scope) (place_given a scope) true ∷ []
+finals (l.CompareExchange weak explicit) line (a ∷ expected ∷ value ∷ orders) scope = i.Compare line weak (order_in orders scope) (second_order_in orders scope)
+    (type_given a scope) (type_given expected scope) (place_given a scope) (place_given expected scope) ∷ []
+finals l.Fence line givens scope = i.Fence line (order_in givens scope) ∷ []
+finals l.MutexInit line (m ∷ rest) scope = i.Mutex line acts.Init (place_given m scope) ∷ []
+finals l.MutexLock line (m ∷ rest) scope = i.Mutex line acts.Lock (place_given m scope) ∷ []
+finals l.MutexTryLock line (m ∷ rest) scope = i.Mutex line acts.TryLock (place_given m scope) ∷ []
+finals l.MutexUnlock line (m ∷ rest) scope = i.Mutex line acts.Unlock (place_given m scope) ∷ []
+finals l.MutexDestroy line (m ∷ rest) scope = dropped (place_given m scope) ++ i.Push nothing ∷ []
+finals l.Create line (handle ∷ function ∷ rest) scope = i.Create line (function_named (given_entity function scope)) (place_given handle scope) ∷ []
+finals l.Join line (handle ∷ answer ∷ rest) scope = i.Join line (answer_place answer scope) ∷ []
+finals l.Assert line givens scope = i.Assert line ∷ []
+finals l.Print line (Text bytes ∷ rest) scope = i.Print line bytes (length rest) ∷ []
+finals _ line givens scope = []

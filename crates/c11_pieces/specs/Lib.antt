@@ -1,0 +1,4 @@
+pub mod Calls
+pub mod Growth
+pub mod Places
+pub mod Trees

@@ -1,0 +1,13 @@
+//! The flat code of expressions (ISO/IEC 9899:2011, 6.5): how many instructions, and which, as `Pieces` of `c11_flat` defines them.
+//!
+//! `Growth` in `specs/` says that code grew by a piece, and `Trees` what the parts of an expression are to the code around them.
+#![tactic(auto)]
+
+mod access;
+mod arguments;
+mod growing;
+mod library;
+mod objects;
+mod types;
+
+pub use types::type_of;
