@@ -3,6 +3,7 @@
 use Rattle.std.specs.Prelude.{ℕ, Bool, true, false, ◌&&◌, List, [], ◌∷◌, ◌++◌, length}
 use Rattle.c11_num.specs.declared.value.CType.{CType}
 use Rattle.c11_num.specs.declared.value.CType.TheVariants.{Int}
+use Rattle.c11_num.specs.declared.kind.RmwKind.{RmwKind}
 use Rattle.c11_ast.specs.declared.expr.CastTo.TheVariants as to
 use Rattle.c11_check.specs.declared.library.Library.{Library}
 use Rattle.c11_check.specs.declared.library.Library.TheVariants as l
@@ -13,6 +14,7 @@ use Rattle.c11_flat.specs.declared.instr.Instr.{Instr}
 use Rattle.c11_flat.specs.declared.instr.Instr.TheVariants as i
 use Rattle.c11_flat.specs.declared.instr.Place.{Place}
 use Rattle.c11_flat.specs.declared.instr.Place.TheVariants.{At}
+use Rattle.c11_flat.specs.declared.instr.Acts.{Acts}
 use Rattle.c11_flat.specs.declared.instr.Acts.TheVariants as acts
 use Rattle.c11_flat.specs.Pieces.{Coding, plain, joined, dropped, place_in, type_in, answer_located, answer_place, handle_read, value_given, values_given}
 
@@ -72,21 +74,58 @@ operands l.Assert line (value ∷ rest) scope = value_given value scope
 operands l.Print line (text ∷ rest) scope = values_given rest scope
 operands _ line givens scope = plain []
 
--- of arguments that fit, the instructions behind the operands
-abbrev pub finals : Library → ℕ → Givens → Scope → List Instr
-finals (l.Load explicit) line (a ∷ orders) scope = i.Load line (order_in orders scope) (place_given a scope) ∷ []
-finals (l.Store explicit) line (a ∷ value ∷ orders) scope = i.Store line (order_in orders scope) (type_given a scope) (place_given a scope) ∷ i.Cast to.Void ∷ []
-finals (l.ReadWrite kind explicit) line (a ∷ value ∷ orders) scope = i.Modify line (order_in orders scope) kind (type_given a scope) (place_given a scope) true ∷ []
-finals (l.CompareExchange weak explicit) line (a ∷ expected ∷ value ∷ orders) scope = i.Compare line weak (order_in orders scope) (second_order_in orders scope)
+-- ---- the instructions behind the operands, of arguments that fit
+
+abbrev pub loads : ℕ → Givens → Scope → List Instr
+loads line (a ∷ orders) scope = i.Load line (order_in orders scope) (place_given a scope) ∷ []
+loads line _ scope = []
+
+abbrev pub stores : ℕ → Givens → Scope → List Instr
+stores line (a ∷ value ∷ orders) scope = i.Store line (order_in orders scope) (type_given a scope) (place_given a scope) ∷ i.Cast to.Void ∷ []
+stores line _ scope = []
+
+abbrev pub modifies : RmwKind → ℕ → Givens → Scope → List Instr
+modifies kind line (a ∷ value ∷ orders) scope = i.Modify line (order_in orders scope) kind (type_given a scope) (place_given a scope) true ∷ []
+modifies kind line _ scope = []
+
+abbrev pub compares : Bool → ℕ → Givens → Scope → List Instr
+compares weak line (a ∷ expected ∷ value ∷ orders) scope = i.Compare line weak (order_in orders scope) (second_order_in orders scope)
     (type_given a scope) (type_given expected scope) (place_given a scope) (place_given expected scope) ∷ []
+compares weak line _ scope = []
+
+abbrev pub on_mutex : Acts → ℕ → Givens → Scope → List Instr
+on_mutex acts line (m ∷ rest) scope = i.Mutex line acts (place_given m scope) ∷ []
+on_mutex acts line _ scope = []
+
+abbrev pub destroys : Givens → Scope → List Instr
+destroys (m ∷ rest) scope = dropped (place_given m scope) ++ i.Push nothing ∷ []
+destroys _ scope = []
+
+abbrev pub creates : ℕ → Givens → Scope → List Instr
+creates line (handle ∷ function ∷ rest) scope = i.Create line (function_named (given_entity function scope)) (place_given handle scope) ∷ []
+creates line _ scope = []
+
+abbrev pub joins : ℕ → Givens → Scope → List Instr
+joins line (handle ∷ answer ∷ rest) scope = i.Join line (answer_place answer scope) ∷ []
+joins line _ scope = []
+
+abbrev pub prints : ℕ → Givens → List Instr
+prints line (Text bytes ∷ rest) = i.Print line bytes (length rest) ∷ []
+prints line _ = []
+
+abbrev pub finals : Library → ℕ → Givens → Scope → List Instr
+finals (l.Load explicit) line givens scope = loads line givens scope
+finals (l.Store explicit) line givens scope = stores line givens scope
+finals (l.ReadWrite kind explicit) line givens scope = modifies kind line givens scope
+finals (l.CompareExchange weak explicit) line givens scope = compares weak line givens scope
 finals l.Fence line givens scope = i.Fence line (order_in givens scope) ∷ []
-finals l.MutexInit line (m ∷ rest) scope = i.Mutex line acts.Init (place_given m scope) ∷ []
-finals l.MutexLock line (m ∷ rest) scope = i.Mutex line acts.Lock (place_given m scope) ∷ []
-finals l.MutexTryLock line (m ∷ rest) scope = i.Mutex line acts.TryLock (place_given m scope) ∷ []
-finals l.MutexUnlock line (m ∷ rest) scope = i.Mutex line acts.Unlock (place_given m scope) ∷ []
-finals l.MutexDestroy line (m ∷ rest) scope = dropped (place_given m scope) ++ i.Push nothing ∷ []
-finals l.Create line (handle ∷ function ∷ rest) scope = i.Create line (function_named (given_entity function scope)) (place_given handle scope) ∷ []
-finals l.Join line (handle ∷ answer ∷ rest) scope = i.Join line (answer_place answer scope) ∷ []
+finals l.MutexInit line givens scope = on_mutex acts.Init line givens scope
+finals l.MutexLock line givens scope = on_mutex acts.Lock line givens scope
+finals l.MutexTryLock line givens scope = on_mutex acts.TryLock line givens scope
+finals l.MutexUnlock line givens scope = on_mutex acts.Unlock line givens scope
+finals l.MutexDestroy line givens scope = destroys givens scope
+finals l.Yield line givens scope = []
+finals l.Create line givens scope = creates line givens scope
+finals l.Join line givens scope = joins line givens scope
 finals l.Assert line givens scope = i.Assert line ∷ []
-finals l.Print line (Text bytes ∷ rest) scope = i.Print line bytes (length rest) ∷ []
-finals _ line givens scope = []
+finals l.Print line givens scope = prints line givens
