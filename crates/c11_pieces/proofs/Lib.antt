@@ -1,2 +1,4 @@
+pub mod Fitting
+pub mod Counted
 pub mod Joins
 pub mod Parts

@@ -1,6 +1,6 @@
 -- Calls of the library in three steps: whether the arguments have the form that the function takes, the code of its operands, and the
 -- instructions behind them.
-use Rattle.std.specs.Prelude.{ℕ, Bool, true, false, ◌&&◌, List, [], ◌∷◌, ◌++◌, length}
+use Rattle.std.specs.Prelude.{ℕ, Bool, true, false, List, [], ◌∷◌, ◌++◌, length}
 use Rattle.c11_num.specs.declared.value.CType.{CType}
 use Rattle.c11_num.specs.declared.value.CType.TheVariants.{Int}
 use Rattle.c11_num.specs.declared.kind.RmwKind.{RmwKind}
@@ -21,30 +21,22 @@ use Rattle.c11_flat.specs.Pieces.{Coding, plain, joined, dropped, place_in, type
 abbrev pub Givens : Type 0
 Givens = List (Given Coding)
 
-abbrev pub is_address : Given Coding → Bool
-is_address (Address object) = true
-is_address _ = false
-
-abbrev pub is_text : Given Coding → Bool
-is_text (Text bytes) = true
-is_text _ = false
-
 -- the arguments have the form that the function takes
 abbrev pub fits : Library → Givens → Bool
-fits (l.Load explicit) (a ∷ orders) = is_address a
-fits (l.Store explicit) (a ∷ value ∷ orders) = is_address a
-fits (l.ReadWrite kind explicit) (a ∷ value ∷ orders) = is_address a
-fits (l.CompareExchange weak explicit) (a ∷ expected ∷ value ∷ orders) = is_address a && is_address expected
+fits (l.Load explicit) (Address a ∷ orders) = true
+fits (l.Store explicit) (Address a ∷ value ∷ orders) = true
+fits (l.ReadWrite kind explicit) (Address a ∷ value ∷ orders) = true
+fits (l.CompareExchange weak explicit) (Address a ∷ Address expected ∷ value ∷ orders) = true
 fits l.Fence givens = true
-fits l.MutexInit (m ∷ rest) = is_address m
-fits l.MutexLock (m ∷ rest) = is_address m
-fits l.MutexTryLock (m ∷ rest) = is_address m
-fits l.MutexUnlock (m ∷ rest) = is_address m
-fits l.MutexDestroy (m ∷ rest) = is_address m
-fits l.Create (handle ∷ function ∷ value ∷ rest) = is_address handle
+fits l.MutexInit (Address m ∷ rest) = true
+fits l.MutexLock (Address m ∷ rest) = true
+fits l.MutexTryLock (Address m ∷ rest) = true
+fits l.MutexUnlock (Address m ∷ rest) = true
+fits l.MutexDestroy (Address m ∷ rest) = true
+fits l.Create (Address handle ∷ function ∷ value ∷ rest) = true
 fits l.Join (handle ∷ answer ∷ rest) = true
 fits l.Assert (value ∷ rest) = true
-fits l.Print (text ∷ rest) = is_text text
+fits l.Print (Text bytes ∷ rest) = true
 fits _ _ = false
 
 -- where the object behind an `&` is

@@ -1,4 +1,5 @@
 pub mod Calls
 pub mod Growth
 pub mod Places
+pub mod Sizes
 pub mod Trees

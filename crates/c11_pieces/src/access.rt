@@ -3,12 +3,16 @@
 ghost use Rattle.std.specs.Prelude.{◌≡◌, ◌++◌, [], ◌∷◌, OnOk};
 ghost use Rattle.c11_check.specs.Library as library;
 ghost use Rattle.c11_meaning.specs.Objects as meaning;
+ghost use Rattle.c11_num.specs.declared.value.CType.TheVariants.{Long};
 ghost use Rattle.c11_flat.specs.declared.instr.Instr.TheVariants as instr;
+ghost use Rattle.c11_flat.specs.declared.instr.Storage.TheVariants.{Local};
 ghost use Rattle.c11_flat.specs.Pieces as spec;
 ghost use Rattle.c11_flat.specs.Pieces.{plain};
 ghost use Rattle.c11_pieces.specs.Growth.{Grows};
 
+use crate::arguments::Held;
 use crate::growing::put;
+use c11_ast::CastTo;
 use c11_check::{Entity, LibraryConstant};
 use c11_events::Order;
 use c11_flat::{Instr, Place, Storage};
@@ -58,15 +62,11 @@ pub(crate) fn put_instead(
 }
 
 /// Reads an object, or what else a name denotes.
-pub(crate) fn put_read(
-    code: &mut Vec<Instr>,
-    entity: &Option<Entity>,
-    line: u32,
-    place: Place,
-) -> Result<(), NoMemory>
-    ensures { OnOk result (Grows code.old.items code.new.items (plain (spec.read_code entity.now line place))) }
+pub(crate) fn put_read(code: &mut Vec<Instr>, object: &Held) -> Result<(), NoMemory>
+    ensures { OnOk result (Grows code.old.items code.new.items (plain (spec.read_code object.now.entity object.now.line object.now.place))) }
 {
-    match entity {
+    let Held { line, place, .. } = *object;
+    match &object.entity {
         Some(Entity::Local { ctype, .. }) => put(
             code,
             Instr::Read {
@@ -101,15 +101,11 @@ pub(crate) fn put_read(
 
 /// Writes a value to an object.
 #[tactic(auto, using(crate::proofs::Joins::grows_cons))]
-pub(crate) fn put_write(
-    code: &mut Vec<Instr>,
-    entity: &Option<Entity>,
-    line: u32,
-    place: Place,
-) -> Result<(), NoMemory>
-    ensures { OnOk result (Grows code.old.items code.new.items (plain (spec.write_code entity.now line place))) }
+pub(crate) fn put_write(code: &mut Vec<Instr>, object: &Held) -> Result<(), NoMemory>
+    ensures { OnOk result (Grows code.old.items code.new.items (plain (spec.write_code object.now.entity object.now.line object.now.place))) }
 {
-    match entity {
+    let Held { line, place, .. } = *object;
+    match &object.entity {
         Some(Entity::Local { ctype, .. }) => put(
             code,
             Instr::Write {
@@ -284,16 +280,15 @@ fn put_updated(
 /// `++` and `--` of an object.
 pub(crate) fn put_step(
     code: &mut Vec<Instr>,
-    entity: &Option<Entity>,
-    line: u32,
+    object: &Held,
     op_line: u32,
     up: bool,
     before: bool,
-    place: Place,
 ) -> Result<(), NoMemory>
-    ensures { OnOk result (Grows code.old.items code.new.items (plain (spec.step entity.now line op_line up before place))) }
+    ensures { OnOk result (Grows code.old.items code.new.items (plain (spec.step object.now.entity object.now.line op_line up before object.now.place))) }
 {
-    match entity {
+    let Held { line, place, .. } = *object;
+    match &object.entity {
         Some(Entity::Local { ctype, .. }) => {
             let storage = Storage::Local;
             put_stepped(code, storage, *ctype, line, op_line, up, before, place)
@@ -304,5 +299,31 @@ pub(crate) fn put_step(
         }
         Some(Entity::Atomic { ctype, .. }) => put_updated(code, line, *ctype, up, before, place),
         _ => put_instead(code, place, nothing()),
+    }
+}
+
+/// Reads a handle, which has the number of a thread.
+pub(crate) fn put_handle(code: &mut Vec<Instr>, line: u32, place: Place) -> Result<(), NoMemory>
+    ensures { OnOk result (Grows code.old.items code.new.items (plain (instr.Read line Local Long place ∷ []))) }
+{
+    put(
+        code,
+        Instr::Read {
+            line,
+            storage: Storage::Local,
+            ctype: CType::Long,
+            place,
+        },
+    )
+}
+
+/// Casts the value of a branch to the type of the whole, where that has one.
+#[tactic(auto, using(crate::proofs::Joins::grows_none))]
+pub(crate) fn put_typed(code: &mut Vec<Instr>, ctype: Option<CType>) -> Result<(), NoMemory>
+    ensures { OnOk result (Grows code.old.items code.new.items (plain (spec.typed_as ctype))) }
+{
+    match ctype {
+        Some(ctype) => put(code, Instr::Cast(CastTo::Number(ctype))),
+        None => Ok(()),
     }
 }

@@ -33,6 +33,30 @@ pub(crate) fn place_in(scopes: &Scopes, target: &Target) -> Place
     placed(&entity_of(scopes, target), target.index.is_some())
 }
 
+/// An object that is read or changed.
+#[derive(Clone, Copy, Debug)]
+pub(crate) struct Held {
+    /// What its name denotes.
+    pub entity: Option<Entity>,
+    /// The line of its name.
+    pub line: u32,
+    /// Where it is.
+    pub place: Place,
+}
+
+/// The object that a variable or an element is.
+pub(crate) fn object_at(scopes: &Scopes, target: &Target) -> Held
+    ensures entity { result.entity ≡ parts.entity_of (object_of target.now) scopes.now }
+    ensures line { result.line ≡ parts.line_of (object_of target.now) }
+    ensures place { result.place ≡ pieces.place_in (object_of target.now) scopes.now }
+{
+    Held {
+        entity: entity_of(scopes, target),
+        line: line_of(target),
+        place: place_in(scopes, target),
+    }
+}
+
 /// What an argument denotes, if it is a name.
 pub(crate) fn given_entity(scopes: &Scopes, arg: &Arg) -> Option<Entity>
     ensures { result ≡ parts.given_entity (given_of arg.now) scopes.now }

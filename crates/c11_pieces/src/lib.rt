@@ -5,9 +5,14 @@
 
 mod access;
 mod arguments;
+mod emission;
 mod growing;
+mod lengths;
 mod library;
 mod objects;
+mod sizes;
 mod types;
 
+pub use emission::emit_expr;
+pub use sizes::expr_size;
 pub use types::type_of;

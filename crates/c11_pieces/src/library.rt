@@ -5,29 +5,19 @@ ghost use Rattle.c11_flat.specs.Pieces as pieces;
 ghost use Rattle.c11_flat.specs.Pieces.{plain};
 ghost use Rattle.c11_pieces.specs.Calls as spec;
 ghost use Rattle.c11_pieces.specs.Growth.{Grows};
+ghost use Rattle.c11_pieces.specs.Sizes as sizes;
 ghost use Rattle.c11_pieces.specs.Trees.{given_of};
 
 use crate::access::{nothing, put_instead};
 use crate::arguments::{entity_of, function_in, order_in, place_in, second_order_in};
 use crate::growing::put;
+use crate::lengths::dropped_size;
 use crate::types::entity_type;
 use c11_ast::{Arg, CastTo};
 use c11_check::Library;
 use c11_check::scopes::Scopes;
 use c11_flat::{Acts, Instr, Place};
 use c11_num::{CType, NoMemory, RmwKind};
-
-fn is_address(arg: &Arg) -> bool
-    ensures { result ≡ spec.is_address (given_of arg.now) }
-{
-    matches!(arg, Arg::Address { .. })
-}
-
-fn is_text(arg: &Arg) -> bool
-    ensures { result ≡ spec.is_text (given_of arg.now) }
-{
-    matches!(arg, Arg::Text { .. })
-}
 
 /// The arguments have the form that the function takes.
 pub(crate) fn fits(library: Library, args: &[Arg]) -> bool
@@ -39,28 +29,17 @@ pub(crate) fn fits(library: Library, args: &[Arg]) -> bool
         | Library::MutexLock
         | Library::MutexTryLock
         | Library::MutexUnlock
-        | Library::MutexDestroy => match args {
-            [object, ..] => is_address(object),
-            [] => false,
-        },
-        Library::Store { .. } | Library::ReadWrite { .. } => match args {
-            [object, _, ..] => is_address(object),
-            _ => false,
-        },
-        Library::CompareExchange { .. } => match args {
-            [object, expected, _, ..] => is_address(object) && is_address(expected),
-            _ => false,
-        },
-        Library::Create => match args {
-            [handle, _, _, ..] => is_address(handle),
-            _ => false,
-        },
-        Library::Print => match args {
-            [text, ..] => is_text(text),
-            [] => false,
-        },
+        | Library::MutexDestroy => matches!(args, [Arg::Address { .. }, ..]),
+        Library::Store { .. } | Library::ReadWrite { .. } => {
+            matches!(args, [Arg::Address { .. }, _, ..])
+        }
+        Library::CompareExchange { .. } => {
+            matches!(args, [Arg::Address { .. }, Arg::Address { .. }, _, ..])
+        }
+        Library::Create => matches!(args, [Arg::Address { .. }, _, _, ..]),
         Library::Join => matches!(args, [_, _, ..]),
         Library::Assert => matches!(args, [_, ..]),
+        Library::Print => matches!(args, [Arg::Text { .. }, ..]),
         Library::Fence => true,
         Library::Yield => false,
     }
@@ -97,12 +76,7 @@ fn answer_place(scopes: &Scopes, arg: &Arg) -> Option<Place>
 
 // An atomic load.
 #[tactic(auto, using(crate::proofs::Joins::grows_none))]
-fn put_load(
-    code: &mut Vec<Instr>,
-    scopes: &Scopes,
-    line: u32,
-    args: &[Arg],
-) -> Result<(), NoMemory>
+fn put_load(code: &mut Vec<Instr>, scopes: &Scopes, line: u32, args: &[Arg]) -> Result<(), NoMemory>
     ensures { OnOk result (Grows code.old.items code.new.items (plain (spec.loads line (map given_of args.now) scopes.now))) }
 {
     match args {
@@ -256,12 +230,7 @@ fn put_create(
 
 // A join of a thread.
 #[tactic(auto, using(crate::proofs::Joins::grows_none))]
-fn put_join(
-    code: &mut Vec<Instr>,
-    scopes: &Scopes,
-    line: u32,
-    args: &[Arg],
-) -> Result<(), NoMemory>
+fn put_join(code: &mut Vec<Instr>, scopes: &Scopes, line: u32, args: &[Arg]) -> Result<(), NoMemory>
     ensures { OnOk result (Grows code.old.items code.new.items (plain (spec.joins line (map given_of args.now) scopes.now))) }
 {
     match args {
@@ -319,5 +288,19 @@ pub(crate) fn put_library(
         Library::Assert => put(code, Instr::Assert { line }),
         Library::Print => put_print(code, line, args),
         Library::Yield => Ok(()),
+    }
+}
+
+/// The size of the instructions behind the operands, where the arguments fit.
+pub(crate) fn finals_size(scopes: &Scopes, library: Library, args: &[Arg]) -> usize
+    ensures { result ≡ sizes.finals_size library (map given_of args.now) scopes.now }
+{
+    match library {
+        Library::Store { .. } => 2,
+        Library::MutexDestroy => match args {
+            [mutex, ..] => dropped_size(place_given(scopes, mutex)) + 1,
+            [] => 1,
+        },
+        _ => 1,
     }
 }
