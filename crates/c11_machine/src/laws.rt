@@ -1,0 +1,7 @@
+ghost use Rattle.c11_machine.specs.Stands.{AsksWhereWanted};
+
+/// Where a thread stands for replies after which the program's syntax trees ask something, the code of the program comes to an ask,
+/// so the thread may go on.
+pub fn asks_where_wanted()
+    ensures { AsksWhereWanted }
+{}
