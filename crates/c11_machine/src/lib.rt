@@ -1,8 +1,16 @@
 //! The machine of one tested thread: it runs flat code, stops at each operation, and goes on with the reply.
 #![tactic(auto)]
 
+mod answer;
+mod effect;
+mod jumps;
 pub mod laws;
+mod library;
+mod locals;
+mod looks;
 mod machine;
+mod numbers;
+mod operations;
 mod thread;
 
 pub use c11_flat::Code;

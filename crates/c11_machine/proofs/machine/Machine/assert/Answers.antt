@@ -1,0 +1,19 @@
+use Rattle.c11_machine.specs.Effects.{ActsAs}
+use Rattle.std.proofs.Common.{refl, sym, ◌∙◌}
+use Rattle.c11_machine.proofs.Effects.{gives_seen, seen, stops, test_false, test_true}
+use Rattle.c11_machine.specs.Views.{config_of}
+use Rattle.c11_machine.proofs.machine.Machine.assert.Goals as goal
+
+pub returns-in_default : goal.returns-in_default
+unfolding ActsAs
+returns-in_default c code = c.in_default.ensures.value _
+
+pub returns-then-is_zero : goal.returns-then-is_zero
+unfolding ActsAs
+returns-then-is_zero c code = let m = config_of c.args.self.now in
+    c.in-Some.ensures.value _ ∙ (test_true _ _ _ (sym c.is_zero.ensures ∙ c.if-is_zero.true) ∙ (stops c.args.line _ m c.args.self.now.pending _ refl ∙ seen _ _ m c.stops.ensures))
+
+pub returns-else-is_zero : goal.returns-else-is_zero
+unfolding ActsAs
+returns-else-is_zero c code = let m = config_of c.args.self.now in
+    c.in-Some.ensures.value _ ∙ (test_false _ _ _ (sym c.is_zero.ensures ∙ c.if-is_zero.false) ∙ gives_seen 1 _ _ _ m c.nothing.ensures c.gives.ensures)

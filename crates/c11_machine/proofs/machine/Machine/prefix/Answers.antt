@@ -1,0 +1,11 @@
+use Rattle.c11_machine.specs.Effects.{ActsAs}
+use Rattle.std.proofs.Common.{◌∙◌}
+use Rattle.c11_machine.proofs.machine.Machine.prefix.Goals as goal
+
+pub returns-in_default : goal.returns-in_default
+unfolding ActsAs
+returns-in_default c code = c.in_default.ensures.value _
+
+pub returns : goal.returns
+unfolding ActsAs
+returns c code = c.in-Some.ensures.value _ ∙ c.prefixes.ensures

@@ -1,0 +1,6 @@
+use Rattle.c11_machine.specs.Effects.{ActsAs}
+use Rattle.c11_machine.proofs.machine.Machine.turn.Goals as goal
+
+pub returns : goal.returns
+unfolding ActsAs
+returns c code = c.counts.ensures
