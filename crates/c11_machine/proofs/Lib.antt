@@ -1,4 +1,5 @@
 pub mod Effects
+pub mod Falls
 pub mod Indexes
 pub mod Ranges
 pub mod Stacks

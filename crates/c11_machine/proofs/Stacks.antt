@@ -70,3 +70,8 @@ place_stays (At n) stack go = refl
 place_stays OnStack [] go = refl
 place_stays OnStack (slot.Value v ∷ stack) go = refl
 place_stays OnStack (slot.Place n ∷ stack) go = refl
+
+-- what is left of a stack of which so many were taken off
+pub taken_off : {A : Type 0} (xs : List A) (k kept : ℕ) → kept ≡ length xs - k → reverse (take kept xs) ≡ drop k (reverse xs)
+taken_off xs k zero e = sym (none_below (reverse xs) k (omega (arith, e, length-reverse xs)))
+taken_off xs k (suc kept) e = sym (drop_reverse xs (suc kept) k (omega (arith, e)))

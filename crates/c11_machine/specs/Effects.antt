@@ -91,3 +91,15 @@ zero_of ctype = record { ctype = ctype; number = pos 0 }
 -- each bit the other way
 abbrev pub flipped : TypedNumber → TypedNumber
 flipped value = wrapped value.ctype (negsuc 0 -ℤ value.number)
+
+-- ---- what becomes of the turns and the reply
+
+abbrev pub turns_after : Budget → ℕ → ℕ
+turns_after Kept turns = turns
+turns_after Turn turns = turns - 1
+turns_after Reply turns = turn_limit
+
+abbrev pub reply_after : Budget → Option spec.Reply → Option spec.Reply
+reply_after Kept reply = reply
+reply_after Turn reply = reply
+reply_after Reply reply = None

@@ -9,6 +9,7 @@ mod library;
 mod locals;
 mod looks;
 mod machine;
+mod moves;
 mod numbers;
 mod operations;
 mod thread;
