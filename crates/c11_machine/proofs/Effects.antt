@@ -42,11 +42,15 @@ unfolding with_reply
 operation_takes line op st k go reply e = ap (λ (rs : List Reply). from (with_reply (ask_at line op) st.locals rs k) go) e
 
 -- a Stop
+pub stops_at : {A : Type 0} (line : ℕ) (kind : StopKind) (st : State) (c : Config) (pending : Option Reply) (go : A → State → Next) → st.replies ≡ listed pending
+    → from (outcome.stop line kind st) go ≡ meant (stopped line kind pending) c
+unfolding from
+stops_at line kind st c None go e = operation_asks line _ st _ go e
+stops_at line kind st c (Some reply) go e = operation_takes line _ st _ go reply e
+
 pub stops : {A : Type 0} (line : ℕ) (kind : StopKind) (c : Config) (pending : Option Reply) (go : A → State → Next) → c.state.replies ≡ listed pending
     → from (outcome.stop line kind c.state) go ≡ meant (stopped line kind pending) c
-unfolding from
-stops line kind c None go e = operation_asks line _ c.state _ go e
-stops line kind c (Some reply) go e = operation_takes line _ c.state _ go reply e
+stops line kind c pending go e = stops_at line kind c.state c pending go e
 
 pub computes : (line : ℕ) (fault : NumFault) (c : Config) (pending : Option Reply) (go : TypedNumber → State → Next) → c.state.replies ≡ listed pending
     → from (computed line (Err fault) c.state) go ≡ meant (stopped line (stop_of fault) pending) c

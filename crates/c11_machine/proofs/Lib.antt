@@ -1,6 +1,9 @@
+pub mod Advances
 pub mod Effects
 pub mod Falls
 pub mod Indexes
 pub mod Ranges
+pub mod Popped
 pub mod Stacks
 pub mod Standings
+pub mod Takes

@@ -11,19 +11,19 @@ use Rattle.c11_flat.specs.declared.slot.Slot.TheVariants as slot
 use Rattle.c11_flat.specs.Flat.{Next, Halts, on_value, on_place, at_place}
 use Rattle.c11_machine.specs.Looks.{SlotIn, ValueIn, PlaceIn}
 
-drop_front : {A : Type 0} (a b : List A) (k : ℕ) → k ≡ length a → drop k (a ++ b) ≡ b
+pub drop_front : {A : Type 0} (a b : List A) (k : ℕ) → k ≡ length a → drop k (a ++ b) ≡ b
 drop_front [] b zero e = refl
 drop_front [] b (suc k) e = absurd (omega (arith, e))
 drop_front (x ∷ a) b zero e = absurd (omega (arith, e))
 drop_front (x ∷ a) b (suc k) e = drop_front a b k (omega (arith, e))
 
-parts : {A : Type 0} (xs : List A) (b : ℕ) → xs ≡ take b xs ++ drop b xs
+pub parts : {A : Type 0} (xs : List A) (b : ℕ) → xs ≡ take b xs ++ drop b xs
 parts [] zero = refl
 parts [] (suc b) = refl
 parts (x ∷ xs) zero = refl
 parts (x ∷ xs) (suc b) = ap (λ (ys : List _). x ∷ ys) (parts xs b)
 
-length_dropped : {A : Type 0} (xs : List A) (b k : ℕ) → b + k ≡ length xs → k ≡ length (drop b xs)
+pub length_dropped : {A : Type 0} (xs : List A) (b k : ℕ) → b + k ≡ length xs → k ≡ length (drop b xs)
 length_dropped [] zero k e = omega (arith, e)
 length_dropped [] (suc b) k e = absurd (omega (arith, e))
 length_dropped (x ∷ xs) zero k e = omega (arith, e)

@@ -32,7 +32,7 @@ wanted_by program replies ask false c r stands = (r.0, ap (λ (rs : List Reply).
 
 pub asks_where_wanted : AsksWhereWanted
 asks_where_wanted program replies ask t wants stands =
-    let reach = wanted_by program replies ask t.begun t.config ((flat_asks_as_trees program replies).asks ask wants) stands in (ask, reach.0, reach.1)
+    let reach = wanted_by program replies ask t.begun t.config ((flat_asks_as_trees program replies).asks ask wants) stands in (ask, reach)
 
 -- with one reply more a thread is where it was, and has it left
 pub given : (code : Whole) (b : Bool) (m : Machine) (reply : Reply) (replies : List Reply) → listed m.pending ≡ [] → stands_by b code (config_of m) replies

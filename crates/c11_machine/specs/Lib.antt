@@ -2,5 +2,8 @@ pub mod Answers
 pub mod Effects
 pub mod Looks
 pub mod Measures
+pub mod Slots
 pub mod Stands
+pub mod Steps
+pub mod Texts
 pub mod Views

@@ -21,14 +21,26 @@ stands_by false code c replies = replies ≡ c.state.replies
 abbrev pub Stands : Whole → Standing → List Reply → Type 0
 Stands code t replies = stands_by t.begun code t.config replies
 
+-- from one moment of a run to another
+abbrev pub Reaches : Whole → Next → Next → Type 0
+Reaches code n m = (j : ℕ) × (steps code j n ≡ m)
+
 -- where it goes on
 abbrev pub goes_from : Bool → Whole → Config → Next
 goes_from true code c = To c
 goes_from false code c = start code c.state.replies
 
--- the code, from where the thread is, comes to an ask
+-- the code, from where the thread is, comes to this ask
+abbrev pub Comes : Whole → Standing → Ask → Type 0
+Comes code t ask = Reaches code (goes_from t.begun code t.config) (Says ask)
+
+-- it comes to some ask
 abbrev pub CanAsk : Whole → Standing → Type 0
-CanAsk code t = (ask : Ask) × (j : ℕ) × (steps code j (goes_from t.begun code t.config) ≡ Says ask)
+CanAsk code t = (ask : Ask) × Comes code t ask
+
+-- it comes to no more than one
+abbrev pub OneAsk : Type 0
+OneAsk = (code : Whole) (t : Standing) (a b : Ask) → Comes code t a → Comes code t b → a ≡ b
 
 -- where the trees ask something after these replies, a thread that stands for them may go on
 abbrev pub AsksWhereWanted : Type 0

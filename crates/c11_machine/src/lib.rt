@@ -2,6 +2,9 @@
 #![tactic(auto)]
 
 mod answer;
+mod calls;
+mod clear;
+mod code;
 mod effect;
 mod jumps;
 pub mod laws;
@@ -12,6 +15,10 @@ mod machine;
 mod moves;
 mod numbers;
 mod operations;
+mod print;
+mod run;
+mod slots;
+mod step;
 mod thread;
 
 pub use c11_flat::Code;

@@ -1,10 +1,14 @@
-ghost use Rattle.std.specs.Prelude.{◌≡◌, ◌++◌, ◌∷◌, [], List};
+ghost use Rattle.std.specs.Prelude.{◌≡◌, ◌++◌, ◌∷◌, [], List, IfOk, OnOk, Some};
+ghost use Rattle.c11_ast.specs.declared.item.Program.{Program};
 ghost use Rattle.c11_events.specs.declared.reply.Reply.{Reply as SpecReply};
-ghost use Rattle.c11_flat.specs.Code.{Whole};
-ghost use Rattle.c11_machine.specs.Stands.{Stands};
+ghost use Rattle.c11_flat.specs.Code.{Whole, whole_of};
+ghost use Rattle.c11_meaning.specs.Asks.{asks_of};
+ghost use Rattle.c11_machine.specs.Stands.{CanAsk, Comes, Stands};
 
 use crate::machine::Machine;
-use c11_events::Reply;
+use c11_events::{Ask, Op, Reply};
+use c11_flat::Code;
+use c11_num::NoMemory;
 use std::alloc::Global;
 use std::marker::Model;
 
@@ -52,5 +56,36 @@ impl Thread {
         ensures number { self.new.number ≡ self.old.number }
     {
         self.machine.pending = Some(*reply);
+    }
+
+    /// Runs local work until the next operation. Without a reply between them, a second call answers the same.
+    ///
+    /// # Errors
+    ///
+    /// Memory ran out; what a single `printf` writes counts as too much from 2 GB on. The thread stands for the replies for which it
+    /// stood, and a later call answers as this one should have.
+    pub fn advance(&mut self, code: &Code) -> Result<Ask, NoMemory>
+        requires { CanAsk code.now self.old }
+        ensures keeps { (replies : List SpecReply) → Stands code.now self.old replies → Stands code.now self.new replies }
+        ensures asks { IfOk result (λ ask. (program : Program) (replies : List SpecReply) → code.now ≡ whole_of program → Stands code.now self.old replies → asks_of program replies ≡ Some ask) }
+        ensures comes { IfOk result (λ ask. Comes code.now self.old ask) }
+        ensures again { CanAsk code.now self.new }
+        ensures taken { OnOk result (self.new.config.state.replies ≡ []) }
+        ensures number { self.new.number ≡ self.old.number }
+    {
+        if self.begun {
+            return self.machine.run(code);
+        }
+        let Some(reply) = self.machine.pending else {
+            return Ok(Ask {
+                line: 0,
+                op: Op::Begin,
+            });
+        };
+        if !self.machine.begin(code, reply)? {
+            unreachable!();
+        }
+        self.begun = true;
+        self.machine.run(code)
     }
 }
