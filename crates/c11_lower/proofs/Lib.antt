@@ -1,0 +1,5 @@
+pub mod Lists
+pub mod Walks
+pub mod Stmts
+pub mod Sized
+pub mod Behind

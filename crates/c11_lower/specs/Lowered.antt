@@ -1,0 +1,52 @@
+-- The parts of a program by themselves: the code of each, and the scope behind it.
+use Rattle.std.specs.Prelude.{List, [], ◌∷◌, map, Option, Some, None}
+use Rattle.c11_num.specs.declared.value.CType.{CType}
+use Rattle.c11_ast.specs.declared.place.Place.{Place}
+use Rattle.c11_ast.specs.declared.stmt.Local.{Local}
+use Rattle.c11_ast.specs.declared.stmt.Stmt.{Stmt}
+use Rattle.c11_ast.specs.declared.stmt.Arm.{Arm}
+use Rattle.c11_ast.specs.declared.stmt.Stmt.TheFolds.{fold-Stmt, fold-Arm}
+use Rattle.c11_check.specs.Scopes.{Scope}
+use Rattle.c11_check.specs.Statements.{locals_walk, handles_walk}
+use Rattle.c11_meaning.specs.Statements.{Run, Armed, behind, arm_step, block_step, stmt_step}
+use Rattle.c11_flat.specs.Code.{Laying, in_order, strip_step}
+
+-- a statement
+abbrev pub laid : Stmt → Run Laying
+laid = fold-Stmt (Run Laying) (Armed Laying) (Run Laying) (stmt_step strip_step) arm_step (block_step in_order)
+
+-- an arm of an `if`
+abbrev pub armed : Arm → Armed Laying
+armed = fold-Arm (Run Laying) (Armed Laying) (Run Laying) (stmt_step strip_step) arm_step (block_step in_order)
+
+-- the code of a statement
+abbrev pub strip_of : Stmt → Laying
+strip_of stmt = (laid stmt).run
+
+-- the scope behind a statement
+abbrev pub passed : Stmt → Scope → Scope
+passed stmt = behind (laid stmt).walk
+
+-- statements in order
+abbrev pub strip_of_all : List Stmt → Laying
+strip_of_all stmts = in_order (map laid stmts)
+
+abbrev pub passed_all : List Stmt → Scope → Scope
+passed_all [] scope = scope
+passed_all (stmt ∷ stmts) scope = passed_all stmts (passed stmt scope)
+
+-- the arms of an `if`, one after the other, and a part that may be left out
+abbrev pub passed_arms : List Arm → Scope → Scope
+passed_arms [] scope = scope
+passed_arms (arm ∷ arms) scope = passed_arms arms (passed arm.body scope)
+
+abbrev pub passed_optional : Option Stmt → Scope → Scope
+passed_optional None scope = scope
+passed_optional (Some stmt) scope = passed stmt scope
+
+-- declarations in a function
+abbrev pub passed_locals : CType → List Local → Scope → Scope
+passed_locals ctype locals scope = (locals_walk ctype locals scope).scope
+
+abbrev pub passed_handles : List Place → Scope → Scope
+passed_handles places scope = (handles_walk places scope).scope

@@ -1,0 +1,5 @@
+//! The flat code of statements, functions and programs.
+#![tactic(auto)]
+
+mod append;
+mod passing;
