@@ -3,3 +3,4 @@ pub mod Walks
 pub mod Stmts
 pub mod Sized
 pub mod Behind
+pub mod Sizes

@@ -19,7 +19,7 @@ use Rattle.c11_check.specs.Faults.{outside, misreturned}
 use Rattle.c11_check.specs.Expressions.{part_of, alone, used}
 use Rattle.c11_meaning.specs.Statements.{Run, Armed, arm_step, block_step, stmt_step, walk_of_run, walk_of_armed, nothing_around}
 use Rattle.c11_flat.specs.Code.{Laying, in_order, strip_step, strip_of_block}
-use Rattle.c11_lower.specs.Lowered.{laid, armed, passed, passed_all}
+use Rattle.c11_lower.specs.Lowered.{laid, armed, passed, passed_all, passed_optional}
 
 -- the names before, and perhaps more
 abbrev pub Grows : List Named → List Named → Type 0
@@ -68,12 +68,12 @@ steady_inside w h = record {
   kept = λ a s. subst (λ (xs : List Named). Grows s.names xs) (sym (taken_back s.names (w a (entered s)).scope.names (h.kept a (entered s)))) (grows_not s.names);
 }
 
-locals_kept : (ctype : CType) (xs : List Local) (s : Scope) → Grows s.names (locals_walk ctype xs s).scope.names
+pub locals_kept : (ctype : CType) (xs : List Local) (s : Scope) → Grows s.names (locals_walk ctype xs s).scope.names
 locals_kept ctype [] s = grows_not s.names
 locals_kept ctype (x ∷ xs) s = let inner = with_local s x.place.word.name ctype (size_in s x.place.size) in
     grows_on s.names inner.names (locals_walk ctype xs inner).scope.names (_, refl) (locals_kept ctype xs inner)
 
-handles_kept : (xs : List Place) (s : Scope) → Grows s.names (handles_walk xs s).scope.names
+pub handles_kept : (xs : List Place) (s : Scope) → Grows s.names (handles_walk xs s).scope.names
 handles_kept [] s = grows_not s.names
 handles_kept (x ∷ xs) s = let inner = with_handle s x.word.name (size_in s x.size) in
     grows_on s.names inner.names (handles_walk xs inner).scope.names (_, refl) (handles_kept xs inner)
@@ -243,3 +243,10 @@ passed_looping x s = (stmt_is_walk x).steady.same (looping nothing_around) nothi
 pub behind_all : (xs : List Stmt) (s : Scope) → (check.in_order (map walk_of_run (map laid xs)) nothing_around s).scope ≡ passed_all xs s
 behind_all [] s = refl
 behind_all (x ∷ xs) s = behind_all xs (passed x s)
+
+pub optional_kept : (x : Option Stmt) (s : Scope) → Grows s.names (passed_optional x s).names
+optional_kept None s = grows_not s.names
+optional_kept (Some x) s = passed_kept x s
+
+pub for_kept : (start : Option Stmt) (body : Stmt) (s : Scope) → Grows s.names (passed body (passed_optional start s)).names
+for_kept start body s = grows_on s.names (passed_optional start s).names (passed body (passed_optional start s)).names (optional_kept start s) (passed_kept body (passed_optional start s))

@@ -1,15 +1,17 @@
 -- The parts of a program by themselves: the code of each, and the scope behind it.
-use Rattle.std.specs.Prelude.{List, [], ◌∷◌, map, Option, Some, None}
+use Rattle.std.specs.Prelude.{ℕ, ◌+◌, List, [], ◌∷◌, map, Option, Some, None}
 use Rattle.c11_num.specs.declared.value.CType.{CType}
 use Rattle.c11_ast.specs.declared.place.Place.{Place}
 use Rattle.c11_ast.specs.declared.stmt.Local.{Local}
+use Rattle.c11_ast.specs.declared.expr.Expr.{Expr}
 use Rattle.c11_ast.specs.declared.stmt.Stmt.{Stmt}
 use Rattle.c11_ast.specs.declared.stmt.Arm.{Arm}
 use Rattle.c11_ast.specs.declared.stmt.Stmt.TheFolds.{fold-Stmt, fold-Arm}
 use Rattle.c11_check.specs.Scopes.{Scope}
 use Rattle.c11_check.specs.Statements.{locals_walk, handles_walk}
 use Rattle.c11_meaning.specs.Statements.{Run, Armed, behind, arm_step, block_step, stmt_step}
-use Rattle.c11_flat.specs.Code.{Laying, in_order, strip_step}
+use Rattle.c11_flat.specs.Pieces.{piece_of}
+use Rattle.c11_flat.specs.Code.{Laying, plain, in_order, strip_step}
 
 -- a statement
 abbrev pub laid : Stmt → Run Laying
@@ -50,3 +52,27 @@ passed_locals ctype locals scope = (locals_walk ctype locals scope).scope
 
 abbrev pub passed_handles : List Place → Scope → Scope
 passed_handles places scope = (handles_walk places scope).scope
+
+-- ---- sizes
+
+abbrev pub optional_strip : Option Stmt → Laying
+optional_strip None scope = plain []
+optional_strip (Some stmt) scope = strip_of stmt scope
+
+-- the arms of an `if`, without what the last `else` has
+abbrev pub arms_size : List Arm → Scope → ℕ
+arms_size [] scope = 0
+arms_size (arm ∷ arms) scope = (piece_of arm.test scope).size + (1 + ((strip_of arm.body scope).size + (1 + arms_size arms scope)))
+
+-- a value that may be left out: one instruction stands in its place, or none
+abbrev pub optional_size : Option Expr → Scope → ℕ
+optional_size None scope = 1
+optional_size (Some expr) scope = (piece_of expr scope).size
+
+abbrev pub alone_size : Option Expr → Scope → ℕ
+alone_size None scope = 0
+alone_size (Some expr) scope = (piece_of expr scope).size + 1
+
+abbrev pub started_size : Option Expr → Scope → ℕ
+started_size None scope = 0
+started_size (Some expr) scope = (piece_of expr scope).size + 2

@@ -2,4 +2,5 @@
 #![tactic(auto)]
 
 mod append;
+mod measuring;
 mod passing;

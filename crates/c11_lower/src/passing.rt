@@ -1,13 +1,25 @@
 //! What statements declare, for those who go past them.
 
-ghost use Rattle.std.specs.Prelude.{◌≡◌, OnOk};
+ghost use Rattle.std.specs.Prelude.{◌≡◌, length, OnOk};
 ghost use Rattle.c11_lower.specs.Lowered as spec;
 
 use c11_ast::{Arm, Boxed, Local, Place, Stmt};
 use c11_check::declarations::size_in;
-use c11_check::scopes::Scopes;
+use c11_check::scopes::{Mark, Scopes};
 use c11_check::statements::{declare_handle, declare_local};
 use c11_num::{CType, NoMemory};
+
+/// A mark to go back to, in the scope that there is.
+pub(crate) fn mark(scopes: &mut Scopes) -> Mark
+    ensures same { scopes.new ≡ scopes.old }
+    ensures names { result.names ≡ length scopes.old.names }
+    ensures start { result.start ≡ scopes.old.start }
+    ensures counts { result.counts ≡ scopes.old.counts }
+{
+    let mark = scopes.enter();
+    scopes.go_back(mark);
+    mark
+}
 
 // Declares variables and arrays, one after the other.
 fn pass_locals<'a>(
@@ -81,7 +93,7 @@ pub(crate) fn pass<'a>(scopes: &mut Scopes<'a>, stmt: &'a Stmt) -> Result<(), No
     }
 }
 
-// Goes past statements, one after the other.
+/// Goes past statements, one after the other.
 #[cycle(passing)]
 pub(crate) fn pass_all<'a>(scopes: &mut Scopes<'a>, stmts: &'a [Stmt]) -> Result<(), NoMemory>
     ensures { OnOk result (scopes.new ≡ spec.passed_all stmts.now scopes.old) }
@@ -103,9 +115,9 @@ fn pass_arms<'a>(scopes: &mut Scopes<'a>, arms: &'a [Arm]) -> Result<(), NoMemor
     Ok(())
 }
 
-// Goes past a part that may be left out.
+/// Goes past a part that may be left out.
 #[cycle(passing)]
-fn pass_optional<'a>(scopes: &mut Scopes<'a>, stmt: &'a Option<Boxed<Stmt>>) -> Result<(), NoMemory>
+pub(crate) fn pass_optional<'a>(scopes: &mut Scopes<'a>, stmt: &'a Option<Boxed<Stmt>>) -> Result<(), NoMemory>
     ensures { OnOk result (scopes.new ≡ spec.passed_optional stmt.now scopes.old) }
 {
     match stmt {
