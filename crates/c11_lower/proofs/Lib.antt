@@ -4,3 +4,4 @@ pub mod Stmts
 pub mod Sized
 pub mod Behind
 pub mod Sizes
+pub mod Codes

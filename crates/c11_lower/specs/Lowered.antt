@@ -1,5 +1,5 @@
 -- The parts of a program by themselves: the code of each, and the scope behind it.
-use Rattle.std.specs.Prelude.{ℕ, ◌+◌, List, [], ◌∷◌, map, Option, Some, None}
+use Rattle.std.specs.Prelude.{◌≡◌, ℕ, ◌+◌, List, [], ◌∷◌, ◌++◌, length, map, Option, Some, None}
 use Rattle.c11_num.specs.declared.value.CType.{CType}
 use Rattle.c11_ast.specs.declared.place.Place.{Place}
 use Rattle.c11_ast.specs.declared.stmt.Local.{Local}
@@ -9,9 +9,12 @@ use Rattle.c11_ast.specs.declared.stmt.Arm.{Arm}
 use Rattle.c11_ast.specs.declared.stmt.Stmt.TheFolds.{fold-Stmt, fold-Arm}
 use Rattle.c11_check.specs.Scopes.{Scope}
 use Rattle.c11_check.specs.Statements.{locals_walk, handles_walk}
+use Rattle.c11_meaning.specs.Objects.{one}
 use Rattle.c11_meaning.specs.Statements.{Run, Armed, behind, arm_step, block_step, stmt_step}
 use Rattle.c11_flat.specs.Pieces.{piece_of}
-use Rattle.c11_flat.specs.Code.{Laying, plain, in_order, strip_step}
+use Rattle.c11_flat.specs.declared.instr.Instr.{Instr}
+use Rattle.c11_flat.specs.declared.instr.Instr.TheVariants as i
+use Rattle.c11_flat.specs.Code.{Strip, Laying, plain, of_instrs, in_order, first_of, turning, repeating, optional_piece, optional_alone, strip_step}
 
 -- a statement
 abbrev pub laid : Stmt → Run Laying
@@ -53,11 +56,12 @@ passed_locals ctype locals scope = (locals_walk ctype locals scope).scope
 abbrev pub passed_handles : List Place → Scope → Scope
 passed_handles places scope = (handles_walk places scope).scope
 
--- ---- sizes
-
+-- a part that may be left out
 abbrev pub optional_strip : Option Stmt → Laying
 optional_strip None scope = plain []
 optional_strip (Some stmt) scope = strip_of stmt scope
+
+-- ---- sizes
 
 -- the arms of an `if`, without what the last `else` has
 abbrev pub arms_size : List Arm → Scope → ℕ
@@ -76,3 +80,35 @@ alone_size (Some expr) scope = (piece_of expr scope).size + 1
 abbrev pub started_size : Option Expr → Scope → ℕ
 started_size None scope = 0
 started_size (Some expr) scope = (piece_of expr scope).size + 2
+
+-- ---- code
+
+abbrev pub laid_optional : Option Stmt → Option (Run Laying)
+laid_optional None = None
+laid_optional (Some stmt) = Some (laid stmt)
+
+-- the arms of an `if`, and what the last `else` has
+abbrev pub arms_strip : List Arm → Option Stmt → Laying
+arms_strip arms otherwise = first_of (map armed arms) (laid_optional otherwise)
+
+-- Where an `if` with these arms ends. It has the same end at each of its arms.
+abbrev pub EndsAt : ℕ → List Instr → List Arm → Option Stmt → Scope → Type 0
+EndsAt end code arms otherwise scope = end ≡ length code + (arms_strip arms otherwise scope).size
+
+-- the code, and then that of a strip
+abbrev pub with_strip : List Instr → Strip → ℕ → ℕ → List Instr
+with_strip code strip breaks continues = code ++ strip.code (length code) breaks continues
+
+-- the beginning of a loop: a jump to the test, and the body
+abbrev pub opening : Strip → ℕ → ℕ → ℕ → List Instr
+opening body next test b = let n = b + 1 + body.size in let t = n + next in i.Jump t ∷ body.code (b + 1) (t + test + 1) n
+
+-- a `while`; a `for` behind its start; a `do`
+abbrev pub while_strip : ℕ → Stmt → Expr → Laying
+while_strip line body test scope = turning line (piece_of test scope) (strip_of body scope) (of_instrs [])
+
+abbrev pub turning_strip : ℕ → Option Expr → Option Expr → Stmt → Laying
+turning_strip line test next body scope = turning line (optional_piece test (i.Push one) scope) (strip_of body scope) (optional_alone next scope)
+
+abbrev pub do_strip : ℕ → Stmt → Expr → Laying
+do_strip line body test scope = repeating line (strip_of body scope) (piece_of test (passed body scope))

@@ -2,5 +2,7 @@
 #![tactic(auto)]
 
 mod append;
+mod declaring;
+mod emitting;
 mod measuring;
 mod passing;

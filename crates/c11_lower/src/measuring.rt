@@ -5,7 +5,7 @@ ghost use Rattle.c11_flat.specs.Code.{locals_strip};
 ghost use Rattle.c11_lower.specs.Lowered as spec;
 
 use crate::append::plus;
-use crate::passing::{mark, pass, pass_optional};
+use crate::passing::{mark, pass, pass_optional, size_behind};
 use c11_ast::{Arm, Boxed, Expr, Local, Stmt};
 use c11_check::declarations::size_in;
 use c11_check::scopes::Scopes;
@@ -96,10 +96,7 @@ pub(crate) fn stmt_size<'a>(scopes: &mut Scopes<'a>, stmt: &'a Stmt) -> Result<u
         }
         Stmt::Do { body, test, .. } => {
             let done = stmt_size(scopes, body.get())?;
-            let mark = mark(scopes);
-            pass(scopes, body.get())?;
-            let tested = plus(expr_size(scopes, test)?, 2)?;
-            scopes.go_back(mark);
+            let tested = plus(size_behind(scopes, body.get(), test)?, 2)?;
             let size = plus(done, tested)?;
             Ok(size)
         }

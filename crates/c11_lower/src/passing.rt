@@ -1,13 +1,16 @@
 //! What statements declare, for those who go past them.
 
-ghost use Rattle.std.specs.Prelude.{◌≡◌, length, OnOk};
+ghost use Rattle.std.specs.Prelude.{◌≡◌, ◌++◌, length, IfOk, OnOk};
+ghost use Rattle.c11_flat.specs.Pieces.{piece_of};
 ghost use Rattle.c11_lower.specs.Lowered as spec;
 
-use c11_ast::{Arm, Boxed, Local, Place, Stmt};
+use c11_ast::{Arm, Boxed, Expr, Local, Place, Stmt};
 use c11_check::declarations::size_in;
 use c11_check::scopes::{Mark, Scopes};
 use c11_check::statements::{declare_handle, declare_local};
+use c11_flat::Instr;
 use c11_num::{CType, NoMemory};
+use c11_pieces::{emit_expr, expr_size};
 
 /// A mark to go back to, in the scope that there is.
 pub(crate) fn mark(scopes: &mut Scopes) -> Mark
@@ -117,11 +120,47 @@ fn pass_arms<'a>(scopes: &mut Scopes<'a>, arms: &'a [Arm]) -> Result<(), NoMemor
 
 /// Goes past a part that may be left out.
 #[cycle(passing)]
-pub(crate) fn pass_optional<'a>(scopes: &mut Scopes<'a>, stmt: &'a Option<Boxed<Stmt>>) -> Result<(), NoMemory>
+pub(crate) fn pass_optional<'a>(
+    scopes: &mut Scopes<'a>,
+    stmt: &'a Option<Boxed<Stmt>>,
+) -> Result<(), NoMemory>
     ensures { OnOk result (scopes.new ≡ spec.passed_optional stmt.now scopes.old) }
 {
     match stmt {
         Some(stmt) => pass(scopes, stmt.get()),
         None => Ok(()),
     }
+}
+
+/// The size of an expression behind the statement, where the scope is as before.
+pub(crate) fn size_behind<'a>(
+    scopes: &mut Scopes<'a>,
+    stmt: &'a Stmt,
+    expr: &Expr,
+) -> Result<usize, NoMemory>
+    ensures size { IfOk result (λ size. size ≡ (piece_of expr.now (spec.passed stmt.now scopes.old)).size) }
+    ensures same { OnOk result (scopes.new ≡ scopes.old) }
+{
+    let mark = mark(scopes);
+    pass(scopes, stmt)?;
+    let size = expr_size(scopes, expr)?;
+    scopes.go_back(mark);
+    Ok(size)
+}
+
+/// The code of an expression behind the statement, where the scope is as before.
+pub(crate) fn emit_behind<'a>(
+    code: &mut Vec<Instr>,
+    scopes: &mut Scopes<'a>,
+    stmt: &'a Stmt,
+    expr: &Expr,
+) -> Result<(), NoMemory>
+    ensures code { OnOk result (code.new.items ≡ code.old.items ++ (piece_of expr.now (spec.passed stmt.now scopes.old)).code (length code.old.items)) }
+    ensures same { OnOk result (scopes.new ≡ scopes.old) }
+{
+    let mark = mark(scopes);
+    pass(scopes, stmt)?;
+    emit_expr(code, scopes, expr)?;
+    scopes.go_back(mark);
+    Ok(())
 }

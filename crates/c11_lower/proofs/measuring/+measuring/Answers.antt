@@ -23,14 +23,6 @@ stmt_size-returns-in_ok-size-in-If-clause-size t c =
     sum ∙ (ap (λ (n : ℕ). n + c.in_ok-last-in-If.last) first ∙ (ap (λ (n : ℕ). arms_size c.in-If.arms scope + n) last
     ∙ sym (size_if c.args.stmt.now c.in-If.spot c.in-If.arms c.in-If.otherwise scope c.in-If.is)))
 
-pub stmt_size-returns-in_ok-size-in-Do-clause-same : goal.stmt_size-returns-in_ok-size-in-Do-clause-same
-stmt_size-returns-in_ok-size-in-Do-clause-same t c =
-    let scope = c.args.scopes.now in
-    let inner = c.pass.new.scopes in
-    let is : inner ≡ passed c.in-Do.body scope = search rules in
-    let back : c.go_back-in-Do.new.self ≡ record { names = take (length scope.names) inner.names; start = scope.start; counts = scope.counts } = search rules in
-    gone_back scope inner (passed c.in-Do.body scope) is (passed_kept c.in-Do.body scope) back
-
 pub stmt_size-returns-in_ok-size-in-For-clause-size : goal.stmt_size-returns-in_ok-size-in-For-clause-size
 stmt_size-returns-in_ok-size-in-For-clause-size t c =
     let scope = c.args.scopes.now in
