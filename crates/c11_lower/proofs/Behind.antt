@@ -1,5 +1,5 @@
 -- The scope behind each kind of statement, by its parts.
-use Rattle.std.proofs.Common.{◌≡◌, ℕ, ◌+◌, ◌<◌, List, [], ◌∷◌, length, Option, Some, None, refl, ap, ◌∙◌, sym, subst, map, drop, get_or}
+use Rattle.std.proofs.Common.{◌≡◌, ℕ, ◌+◌, ◌<◌, List, [], ◌∷◌, length, Option, Some, None, refl, ap, ◌∙◌, sym, map, drop, get_or}
 use Rattle.c11_num.specs.declared.value.CType.{CType}
 use Rattle.c11_ast.specs.declared.place.Spot.{Spot}
 use Rattle.c11_ast.specs.declared.place.Place.{Place}
@@ -14,7 +14,7 @@ use Rattle.c11_check.specs.Statements.{Walk, looping}
 use Rattle.c11_check.specs.Statements as check
 use Rattle.c11_meaning.specs.Statements.{Run, Armed, behind, nothing_around, walk_of_armed}
 use Rattle.c11_flat.specs.Code.{Laying}
-use Rattle.c11_lower.specs.Lowered.{laid, armed, passed, passed_all, passed_arms, passed_optional, passed_locals, passed_handles}
+use Rattle.c11_lower.specs.Lowered.{armed, passed, passed_all, passed_arms, passed_optional, passed_locals, passed_handles}
 use Rattle.c11_lower.proofs.Lists.{first_of}
 use Rattle.c11_lower.proofs.Walks.{passed_looping, behind_all}
 use Rattle.c11_lower.proofs.Stmts.{arm_is, block_is, if_none_is, if_some_is, while_is, do_is, for_none_is, for_some_is}

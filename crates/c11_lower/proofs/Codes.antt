@@ -20,7 +20,7 @@ use Rattle.c11_meaning.specs.Objects.{nothing, one}
 use Rattle.c11_meaning.specs.Statements.{Run, Armed}
 use Rattle.c11_flat.specs.Pieces.{Piece}
 use Rattle.c11_flat.specs.Code.{Strip, Laying, of_piece, of_instrs, joined, chosen, started, locals_strip, handles_strip, first_of, turning, repeating, optional_piece, optional_alone}
-use Rattle.c11_lower.specs.Lowered.{laid, armed, strip_of, strip_of_all, optional_strip, alone_size, optional_size, laid_optional, arms_strip, EndsAt, with_strip, opening, while_strip, turning_strip, do_strip, passed, passed_optional}
+use Rattle.c11_lower.specs.Lowered.{armed, strip_of, strip_of_all, optional_strip, alone_size, optional_size, laid_optional, arms_strip, EndsAt, with_strip, opening, while_strip, turning_strip, do_strip, passed, passed_optional}
 use Rattle.c11_lower.proofs.Stmts.{arm_is, for_none_is, for_some_is, return_is}
 use Rattle.c11_lower.proofs.Lists as lists
 use Rattle.c11_lower.proofs.Sizes.{alone_sizes, optional_sizes}

@@ -5,3 +5,4 @@ pub mod Sized
 pub mod Behind
 pub mod Sizes
 pub mod Codes
+pub mod Bodies

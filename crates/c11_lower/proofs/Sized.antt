@@ -1,8 +1,7 @@
 -- Code is as long as its size.
-use Rattle.std.proofs.Common.{◌≡◌, ℕ, ◌+◌, List, [], ◌∷◌, ◌++◌, length, Option, Some, None, refl, ap, ◌∙◌, sym, subst, arith, map}
+use Rattle.std.proofs.Common.{◌≡◌, ℕ, List, [], ◌∷◌, length, Option, Some, None, refl, ap, subst, arith}
 use Rattle.std.proofs.lemmas.List.{length-append}
 use Rattle.c11_ast.specs.declared.place.Spot.{Spot}
-use Rattle.c11_ast.specs.declared.place.Place.{Place}
 use Rattle.c11_ast.specs.declared.expr.Expr.{Expr}
 use Rattle.c11_ast.specs.declared.stmt.Stmt.{Stmt}
 use Rattle.c11_ast.specs.declared.stmt.Block.{Block}
@@ -13,13 +12,13 @@ use Rattle.c11_meaning.specs.Expressions.{Calls}
 use Rattle.c11_meaning.specs.Statements.{Run, Armed, arm_step, block_step, stmt_step}
 use Rattle.c11_flat.specs.declared.instr.Instr.{Instr}
 use Rattle.c11_flat.specs.declared.instr.Instr.TheVariants as i
-use Rattle.c11_flat.specs.Pieces.{Piece, piece_of}
-use Rattle.c11_flat.specs.Code.{Whole, Strip, Laying, in_order, strip_step, strip_of_block, alone, optional_alone, optional_piece}
+use Rattle.c11_flat.specs.Pieces.{piece_of}
+use Rattle.c11_flat.specs.Code.{Whole, Laying, in_order, strip_step, strip_of_block, optional_alone, optional_piece}
 use Rattle.c11_flat.proofs.Library.{CallsDo}
 use Rattle.c11_flat.proofs.Exprs.{expr_does}
 use Rattle.c11_flat.proofs.Stmts.{block_does}
 use Rattle.c11_flat.proofs.Calls.{calls_do}
-use Rattle.c11_lower.specs.Lowered.{laid, strip_of, strip_of_all}
+use Rattle.c11_lower.specs.Lowered.{strip_of, strip_of_all}
 
 abbrev empty : Whole
 empty = record { instrs = []; starts = [] }

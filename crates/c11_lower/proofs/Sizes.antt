@@ -1,5 +1,5 @@
 -- The size of each kind of statement, by its parts.
-use Rattle.std.proofs.Common.{◌≡◌, ℕ, ◌+◌, ◌<◌, List, [], ◌∷◌, length, Option, Some, None, refl, ap, ◌∙◌, sym, subst, arith, map, drop, get_or, take}
+use Rattle.std.proofs.Common.{◌≡◌, ℕ, ◌+◌, List, [], ◌∷◌, length, Option, Some, None, refl, ap, ◌∙◌, arith, map, take}
 use Rattle.c11_num.specs.declared.value.CType.{CType}
 use Rattle.c11_ast.specs.declared.place.Spot.{Spot}
 use Rattle.c11_ast.specs.declared.place.Place.{Place}
@@ -9,14 +9,13 @@ use Rattle.c11_ast.specs.declared.stmt.Stmt.{Stmt}
 use Rattle.c11_ast.specs.declared.stmt.Stmt.TheVariants as s
 use Rattle.c11_ast.specs.declared.stmt.Arm.{Arm}
 use Rattle.c11_ast.specs.declared.stmt.Block.{Block}
-use Rattle.c11_check.specs.Scopes.{Scope, Named, entered, size_in, with_local, with_handle}
+use Rattle.c11_check.specs.Scopes.{Scope, Named, entered, size_in, with_handle}
 use Rattle.c11_meaning.specs.Statements.{Run, Armed}
 use Rattle.c11_flat.specs.declared.instr.Instr.{Instr}
 use Rattle.c11_flat.specs.Pieces.{piece_of}
 use Rattle.c11_flat.specs.Code.{Laying, optional_run, optional_piece, optional_alone, started, locals_strip, handles_strip}
 use Rattle.c11_flat.specs.Code as code
-use Rattle.c11_lower.specs.Lowered.{laid, armed, strip_of, strip_of_all, optional_strip, arms_size, optional_size, alone_size, started_size, passed, passed_all, passed_optional}
-use Rattle.c11_lower.proofs.Lists.{first_of}
+use Rattle.c11_lower.specs.Lowered.{laid, armed, strip_of, strip_of_all, optional_strip, arms_size, optional_size, alone_size, started_size, passed, passed_optional}
 use Rattle.c11_lower.proofs.Walks.{Grows, taken_back}
 use Rattle.c11_lower.proofs.Stmts.{arm_is, block_is, empty_is, expr_is, if_none_is, if_some_is, while_is, do_is, for_none_is, for_some_is, break_is, continue_is, return_is, locals_are, handles_are}
 

@@ -1,5 +1,5 @@
 -- Each kind of statement, by its parts.
-use Rattle.std.proofs.Common.{◌≡◌, ℕ, ◌+◌, List, [], ◌∷◌, ◌++◌, length, Option, Some, None, refl, ap, ◌∙◌, sym, subst, arith, map}
+use Rattle.std.proofs.Common.{◌≡◌, List, Option, Some, None, ap, ◌∙◌, sym, map}
 use Rattle.c11_num.specs.declared.value.CType.{CType}
 use Rattle.c11_ast.specs.declared.place.Spot.{Spot}
 use Rattle.c11_ast.specs.declared.place.Place.{Place}
@@ -11,10 +11,9 @@ use Rattle.c11_ast.specs.declared.stmt.Arm.{Arm}
 use Rattle.c11_ast.specs.declared.stmt.Block.{Block}
 use Rattle.c11_ast.specs.declared.stmt.Stmt.TheOpen.{Stmt-F}
 use Rattle.c11_ast.specs.declared.stmt.Stmt.TheFolds.{fold-roll-Stmt, fold_out-Arm, fold_out-Block}
-use Rattle.c11_check.specs.Scopes.{Scope, entered}
 use Rattle.c11_meaning.specs.Statements.{Run, Armed, arm_step, block_step, stmt_step}
-use Rattle.c11_flat.specs.Code.{Laying, Strip, in_order, strip_step, strip_of_block}
-use Rattle.c11_lower.specs.Lowered.{laid, armed, strip_of, strip_of_all, passed, passed_all}
+use Rattle.c11_flat.specs.Code.{Laying, in_order, strip_step, strip_of_block}
+use Rattle.c11_lower.specs.Lowered.{laid, armed}
 
 abbrev layer : Stmt-F (Run Laying) (Armed Laying) (Run Laying) → Run Laying
 layer = stmt_step strip_step

@@ -6,15 +6,18 @@ use Rattle.c11_ast.specs.declared.stmt.Local.{Local}
 use Rattle.c11_ast.specs.declared.expr.Expr.{Expr}
 use Rattle.c11_ast.specs.declared.stmt.Stmt.{Stmt}
 use Rattle.c11_ast.specs.declared.stmt.Arm.{Arm}
+use Rattle.c11_ast.specs.declared.stmt.Block.{Block}
+use Rattle.c11_ast.specs.declared.item.Function.{Function}
 use Rattle.c11_ast.specs.declared.stmt.Stmt.TheFolds.{fold-Stmt, fold-Arm}
 use Rattle.c11_check.specs.Scopes.{Scope}
 use Rattle.c11_check.specs.Statements.{locals_walk, handles_walk}
-use Rattle.c11_meaning.specs.Objects.{one}
+use Rattle.c11_meaning.specs.Objects.{nothing, one}
+use Rattle.c11_meaning.specs.Asks.{Runnable, runnable, inner_scope}
 use Rattle.c11_meaning.specs.Statements.{Run, Armed, behind, arm_step, block_step, stmt_step}
 use Rattle.c11_flat.specs.Pieces.{piece_of}
 use Rattle.c11_flat.specs.declared.instr.Instr.{Instr}
 use Rattle.c11_flat.specs.declared.instr.Instr.TheVariants as i
-use Rattle.c11_flat.specs.Code.{Strip, Laying, plain, of_instrs, in_order, first_of, turning, repeating, optional_piece, optional_alone, strip_step}
+use Rattle.c11_flat.specs.Code.{Strip, Laying, plain, of_instrs, in_order, first_of, turning, repeating, strip_of_block, optional_piece, optional_alone, strip_step}
 
 -- a statement
 abbrev pub laid : Stmt → Run Laying
@@ -112,3 +115,12 @@ turning_strip line test next body scope = turning line (optional_piece test (i.P
 
 abbrev pub do_strip : ℕ → Stmt → Expr → Laying
 do_strip line body test scope = repeating line (strip_of body scope) (piece_of test (passed body scope))
+
+-- the body of a function, and what is behind it
+abbrev pub body_code : Block → Scope → ℕ → List Instr
+body_code block scope b = let body = (strip_of_block block).run scope in let end = b + body.size in
+    body.code b end end ++ (i.Push nothing ∷ i.Return block.close.line ∷ [])
+
+-- the function, in the scope before it
+abbrev pub runnable_in : Function → Scope → Runnable
+runnable_in f scope = runnable f (inner_scope f scope)

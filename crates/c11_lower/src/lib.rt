@@ -4,5 +4,9 @@
 mod append;
 mod declaring;
 mod emitting;
+mod functions;
 mod measuring;
 mod passing;
+mod whole;
+
+pub use whole::lower;

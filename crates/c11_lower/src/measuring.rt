@@ -176,3 +176,14 @@ fn size_of_optional<'a>(
         None => Ok(0),
     }
 }
+
+/// The size of statements, one after the other.
+pub(crate) fn all_size<'a>(scopes: &mut Scopes<'a>, stmts: &'a [Stmt]) -> Result<usize, NoMemory>
+    ensures size { IfOk result (λ size. size ≡ (spec.strip_of_all stmts.now scopes.old).size) }
+    ensures same { OnOk result (scopes.new ≡ scopes.old) }
+{
+    let mark = mark(scopes);
+    let size = size_of_all(scopes, stmts)?;
+    scopes.go_back(mark);
+    Ok(size)
+}

@@ -1,5 +1,5 @@
-use Rattle.std.proofs.Common.{rules, ◌≡◌, ◌+◌, List, [], ◌∷◌, ◌++◌, ◌∙◌}
-use Rattle.c11_check.specs.Scopes.{Scope, size_in, taken, with_local}
+use Rattle.std.proofs.Common.{rules, ◌≡◌, [], ◌∷◌, ◌++◌, ◌∙◌}
+use Rattle.c11_check.specs.Scopes.{size_in, taken, with_local}
 use Rattle.c11_flat.specs.declared.instr.Instr.TheVariants as i
 use Rattle.c11_flat.specs.Code.{started}
 use Rattle.c11_lower.proofs.Behind.{local_passed}

@@ -1,12 +1,11 @@
-use Rattle.std.proofs.Common.{rules, arith, ◌≡◌, ℕ, ◌+◌, List, [], ◌∷◌, ◌++◌, Option, length, take, drop, ap, ◌∙◌, sym, subst}
-use Rattle.c11_ast.specs.declared.stmt.Stmt.{Stmt}
+use Rattle.std.proofs.Common.{rules, arith, ◌≡◌, ℕ, ◌+◌, [], ◌∷◌, ◌++◌, length, take, ap, ◌∙◌, subst}
 use Rattle.c11_check.specs.Scopes.{Scope, entered}
 use Rattle.c11_meaning.specs.Objects.{nothing, one}
 use Rattle.c11_flat.specs.declared.instr.Instr.{Instr}
 use Rattle.c11_flat.specs.declared.instr.Instr.TheVariants as i
 use Rattle.c11_flat.specs.Pieces.{piece_of}
 use Rattle.c11_flat.specs.Code.{optional_piece, optional_alone}
-use Rattle.c11_lower.specs.Lowered.{strip_of, strip_of_all, optional_strip, arms_strip, with_strip, EndsAt, opening, turning_strip, optional_size, alone_size, passed, passed_all, passed_optional, passed_locals, passed_handles}
+use Rattle.c11_lower.specs.Lowered.{strip_of, optional_strip, with_strip, opening, turning_strip, optional_size, alone_size, passed, passed_all, passed_optional, passed_locals, passed_handles}
 use Rattle.c11_lower.proofs.Walks.{passed_all_kept, optional_kept, locals_kept, handles_kept}
 use Rattle.c11_lower.proofs.Sizes.{gone_back}
 use Rattle.c11_lower.proofs.Behind.{stmt_passed}

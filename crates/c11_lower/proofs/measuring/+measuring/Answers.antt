@@ -1,8 +1,7 @@
-use Rattle.std.proofs.Common.{rules, arith, ◌≡◌, ℕ, ◌+◌, length, take, ap, ◌∙◌, sym, refl}
+use Rattle.std.proofs.Common.{rules, ◌≡◌, ℕ, ◌+◌, length, take, ap, ◌∙◌, sym}
 use Rattle.c11_check.specs.Scopes.{Scope, entered}
-use Rattle.c11_flat.specs.Pieces.{piece_of}
-use Rattle.c11_lower.specs.Lowered.{strip_of, strip_of_all, optional_strip, arms_size, optional_size, alone_size, passed, passed_all, passed_optional, passed_locals}
-use Rattle.c11_lower.proofs.Walks.{passed_kept, passed_all_kept, optional_kept, locals_kept, for_kept}
+use Rattle.c11_lower.specs.Lowered.{strip_of, optional_strip, arms_size, optional_size, alone_size, passed_all, passed_optional, passed_locals}
+use Rattle.c11_lower.proofs.Walks.{passed_all_kept, optional_kept, locals_kept}
 use Rattle.c11_lower.proofs.Sizes.{gone_back, for_sum, size_if, size_for, size_handles}
 use Rattle.c11_lower.proofs.measuring.+measuring.Goals as goal
 

@@ -1,5 +1,4 @@
 use Rattle.std.proofs.Common.{rules, ◌≡◌, length, take}
-use Rattle.c11_check.specs.Scopes.{Scope}
 use Rattle.c11_lower.specs.Lowered.{passed}
 use Rattle.c11_lower.proofs.Walks.{passed_kept}
 use Rattle.c11_lower.proofs.Sizes.{gone_back}
