@@ -2,19 +2,18 @@
 use Rattle.std.proofs.Common.{◌≡◌, ℕ, ◌+◌, ◌<◌, List, [], ◌∷◌, length, Option, Some, None, refl, ap, ◌∙◌, sym, map, drop, get_or}
 use Rattle.c11_num.specs.declared.value.CType.{CType}
 use Rattle.c11_ast.specs.declared.place.Spot.{Spot}
-use Rattle.c11_ast.specs.declared.place.Place.{Place}
 use Rattle.c11_ast.specs.declared.expr.Expr.{Expr}
 use Rattle.c11_ast.specs.declared.stmt.Local.{Local}
 use Rattle.c11_ast.specs.declared.stmt.Stmt.{Stmt}
 use Rattle.c11_ast.specs.declared.stmt.Stmt.TheVariants as s
 use Rattle.c11_ast.specs.declared.stmt.Arm.{Arm}
 use Rattle.c11_ast.specs.declared.stmt.Block.{Block}
-use Rattle.c11_check.specs.Scopes.{Scope, entered, left_for, size_in, with_local, with_handle}
+use Rattle.c11_check.specs.Scopes.{Scope, entered, left_for, size_in, with_local}
 use Rattle.c11_check.specs.Statements.{Walk, looping}
 use Rattle.c11_check.specs.Statements as check
 use Rattle.c11_meaning.specs.Statements.{Run, Armed, behind, nothing_around, walk_of_armed}
 use Rattle.c11_flat.specs.Code.{Laying}
-use Rattle.c11_lower.specs.Lowered.{armed, passed, passed_all, passed_arms, passed_optional, passed_locals, passed_handles}
+use Rattle.c11_lower.specs.Lowered.{armed, passed, passed_all, passed_arms, passed_optional, passed_locals}
 use Rattle.c11_lower.proofs.Lists.{first_of}
 use Rattle.c11_lower.proofs.Walks.{passed_looping, behind_all}
 use Rattle.c11_lower.proofs.Stmts.{arm_is, block_is, if_none_is, if_some_is, while_is, do_is, for_none_is, for_some_is}
@@ -51,14 +50,6 @@ pub local_passed : (ctype : CType) (xs : List Local) (i : ℕ) (x : Local) (scop
     → after ≡ with_local scope x.place.word.name ctype (size_in scope x.place.size) → passed_locals ctype (drop (i + 1) xs) after ≡ passed_locals ctype (drop i xs) scope
 local_passed ctype xs i x scope less at is = ap (λ (m : Scope). passed_locals ctype (drop (i + 1) xs) m) is ∙ sym (ap (λ (ys : List Local). passed_locals ctype ys scope) (first_of xs i x less at))
 
-pub handle_passed : (xs : List Place) (i : ℕ) (x : Place) (scope : Scope) {after : Scope} → i < length xs → x ≡ get_or xs i x
-    → after ≡ with_handle scope x.word.name (size_in scope x.size) → passed_handles (drop (i + 1) xs) after ≡ passed_handles (drop i xs) scope
-handle_passed xs i x scope less at is = ap (λ (m : Scope). passed_handles (drop (i + 1) xs) m) is ∙ sym (ap (λ (ys : List Place). passed_handles ys scope) (first_of xs i x less at))
-
 pub stmt_passed : (xs : List Stmt) (i : ℕ) (x : Stmt) (scope : Scope) {after : Scope} → i < length xs → x ≡ get_or xs i x
     → after ≡ passed x scope → passed_all (drop (i + 1) xs) after ≡ passed_all (drop i xs) scope
 stmt_passed xs i x scope less at is = ap (λ (m : Scope). passed_all (drop (i + 1) xs) m) is ∙ sym (ap (λ (ys : List Stmt). passed_all ys scope) (first_of xs i x less at))
-
-pub arm_passed : (xs : List Arm) (i : ℕ) (x : Arm) (scope : Scope) {after : Scope} → i < length xs → x ≡ get_or xs i x
-    → after ≡ passed x.body scope → passed_arms (drop (i + 1) xs) after ≡ passed_arms (drop i xs) scope
-arm_passed xs i x scope less at is = ap (λ (m : Scope). passed_arms (drop (i + 1) xs) m) is ∙ sym (ap (λ (ys : List Arm). passed_arms ys scope) (first_of xs i x less at))

@@ -1,5 +1,5 @@
 -- Functions, and one behind the other.
-use Rattle.std.proofs.Common.{◌≡◌, ℕ, ◌+◌, ◌<◌, List, [], ◌∷◌, ◌++◌, length, false, ap, ◌∙◌, sym, arith, append_assoc, append-nil, drop, get_or}
+use Rattle.std.proofs.Common.{◌≡◌, ℕ, ◌+◌, ◌<◌, List, [], ◌∷◌, ◌++◌, length, false, ap, ◌∙◌, sym, arith, append_assoc, drop, get_or}
 use Rattle.std.proofs.lemmas.List.{length-append}
 use Rattle.c11_num.specs.declared.value.CType.{CType}
 use Rattle.c11_ast.specs.declared.stmt.Block.{Block}
@@ -14,12 +14,12 @@ use Rattle.c11_meaning.specs.Statements.{Run, nothing_around}
 use Rattle.c11_meaning.specs.Asks.{Runnable, runnable, inner_scope, functions_of_item, functions_from}
 use Rattle.c11_flat.specs.declared.instr.Instr.TheVariants as i
 use Rattle.c11_flat.specs.Code.{Laying, Start, strip_of_block, function_code, function_size, start_of, types_of, instrs_from, starts_from}
-use Rattle.c11_lower.specs.Lowered.{strip_of_all, passed_all, body_code, with_strip}
+use Rattle.c11_lower.specs.Lowered.{passed_all}
 use Rattle.c11_lower.proofs.Lists as lists
 use Rattle.c11_lower.proofs.Walks.{block_is_walk, behind_all}
 use Rattle.c11_lower.proofs.Stmts.{block_of_is}
 use Rattle.c11_lower.proofs.Sized.{block_sized}
-use Rattle.c11_lower.proofs.Codes.{Code, Wrote}
+use Rattle.c11_lower.proofs.Codes.{Code}
 
 -- whatever is around, the scope behind a body is the one behind its statements
 pub walked_body : (block : Block) (a : Around) (s : Scope) → (walk_of_block block a s).scope ≡ passed_all block.items s
@@ -32,17 +32,6 @@ places_of f inner = ap (λ (s : Scope). s.counts.places) (walked_body f.body not
 
 pub function_passed : (f : Function) (s : Scope) → (function_walk f s).scope ≡ left_for (with_function s f) (passed_all f.body.items (inner_scope f s))
 function_passed f s = ap (λ (m : Scope). left_for (with_function s f) m) (walked_body f.body (record { answers = f.answers; in_loop = false }) (inner_scope f s))
-
--- the items of a body, and what is behind them
-pub body_written : (block : Block) (s : Scope) (size end : ℕ) (c : Code) {d e f : Code} → size ≡ (strip_of_all block.items s).size → end ≡ length c + size
-    → d ≡ with_strip c (strip_of_all block.items s) end end → e ≡ d ++ i.Push nothing ∷ [] → f ≡ e ++ i.Return block.close.line ∷ [] → Wrote c (body_code block s) f
-body_written block s size end c {d} {e} size_is end_is w v u = let p = strip_of_all block.items s in
-    let last = i.Push nothing ∷ i.Return block.close.line ∷ [] in
-    let end' : end ≡ length c + p.size = end_is ∙ ap (λ (n : ℕ). length c + n) size_is in
-    u ∙ (ap (λ (x : Code). x ++ i.Return block.close.line ∷ []) v ∙ (append_assoc d (i.Push nothing ∷ []) (i.Return block.close.line ∷ [])
-    ∙ (ap (λ (x : Code). x ++ last) w ∙ (append_assoc c (p.code (length c) end end) last
-    ∙ (ap (λ (n : ℕ). c ++ (p.code (length c) n n ++ last)) end'
-    ∙ sym (ap (λ (r : Run Laying). c ++ ((r.run s).code (length c) (length c + (r.run s).size) (length c + (r.run s).size) ++ last)) (block_of_is block)))))))
 
 -- ---- one function behind the other
 
@@ -94,10 +83,6 @@ module _ (xs : List Item) (n : ℕ) (x : Item) (s : Scope) (c : Code) {d : Code}
       ∙ (ap (λ (m : ℕ). ts ++ starts_from m rest) long ∙ (ap (λ (y : List Start). y ++ starts_from (next_after (length c) one) rest) v
       ∙ (append_assoc ss (starts_from (length c) one) (starts_from (next_after (length c) one) rest)
       ∙ (sym (ap (λ (y : List Start). ss ++ y) (starts_both (length c) one rest)) ∙ sym (ap (λ (rs : List Runnable). ss ++ starts_from (length c) rs) all)))))
-
--- one function alone
-pub alone_instrs : (r : Runnable) (b : ℕ) → function_code r b ≡ instrs_from b (r ∷ [])
-alone_instrs r b = sym (append-nil (function_code r b))
 
 abbrev pub start_with : Function → ℕ → List CType → ℕ → Start
 start_with f place types places = record { place = place; params = types; places = places; answers = f.answers }

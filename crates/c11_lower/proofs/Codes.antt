@@ -2,10 +2,9 @@
 use Rattle.std.proofs.Common.{◌≡◌, ℕ, ◌+◌, ◌<◌, List, [], ◌∷◌, ◌++◌, length, Option, Some, None, refl, ap, ◌∙◌, sym, subst, arith, append_assoc, map, drop, get_or}
 use Rattle.std.proofs.lemmas.List.{length-append}
 use Rattle.c11_num.specs.declared.value.CType.{CType}
-use Rattle.c11_ast.specs.declared.place.Place.{Place}
 use Rattle.c11_ast.specs.declared.expr.Expr.{Expr}
 use Rattle.c11_ast.specs.declared.stmt.Local.{Local}
-use Rattle.c11_check.specs.Scopes.{Scope, size_in, taken, with_local, with_handle}
+use Rattle.c11_check.specs.Scopes.{Scope, size_in, taken, with_local}
 use Rattle.c11_flat.specs.declared.instr.Instr.{Instr}
 use Rattle.c11_flat.specs.declared.instr.Instr.TheVariants as i
 use Rattle.c11_flat.specs.declared.instr.Place.TheVariants.{At}
@@ -16,12 +15,12 @@ use Rattle.c11_ast.specs.declared.stmt.Stmt.{Stmt}
 use Rattle.c11_ast.specs.declared.stmt.Stmt.TheVariants as s
 use Rattle.c11_ast.specs.declared.stmt.Arm.{Arm}
 use Rattle.c11_check.specs.Scopes.{entered}
-use Rattle.c11_meaning.specs.Objects.{nothing, one}
+use Rattle.c11_meaning.specs.Objects.{one}
 use Rattle.c11_meaning.specs.Statements.{Run, Armed}
 use Rattle.c11_flat.specs.Pieces.{Piece}
-use Rattle.c11_flat.specs.Code.{Strip, Laying, of_piece, of_instrs, joined, chosen, started, locals_strip, handles_strip, first_of, turning, repeating, optional_piece, optional_alone}
+use Rattle.c11_flat.specs.Code.{Strip, Laying, of_piece, of_instrs, joined, chosen, started, locals_strip, first_of, turning, repeating, optional_piece, optional_alone}
 use Rattle.c11_lower.specs.Lowered.{armed, strip_of, strip_of_all, optional_strip, alone_size, optional_size, laid_optional, arms_strip, EndsAt, with_strip, opening, while_strip, turning_strip, do_strip, passed, passed_optional}
-use Rattle.c11_lower.proofs.Stmts.{arm_is, for_none_is, for_some_is, return_is}
+use Rattle.c11_lower.proofs.Stmts.{arm_is, for_none_is, for_some_is}
 use Rattle.c11_lower.proofs.Lists as lists
 use Rattle.c11_lower.proofs.Sizes.{alone_sizes, optional_sizes}
 use Rattle.c11_lower.proofs.Sized.{expr_sized, stmt_sized, alone_sized, optional_sized}
@@ -41,9 +40,6 @@ wrote_length c f n w e = ap length w ∙ omega (arith, length-append c (f (lengt
 pub wrote_then : (c : Code) (f g : ℕ → Code) (n : ℕ) {d : Code} → Wrote c f d → length (f (length c)) ≡ n → d ++ g (length d) ≡ c ++ (f (length c) ++ g (length c + n))
 wrote_then c f g n {d} w e = ap (λ (m : ℕ). d ++ g m) (wrote_length c f n w e) ∙ (ap (λ (x : Code). x ++ g (length c + n)) w ∙ append_assoc c (f (length c)) (g (length c + n)))
 
-pub wrote_both : (c : Code) (f g : ℕ → Code) (n : ℕ) {d e : Code} → Wrote c f d → length (f (length c)) ≡ n → Wrote d g e → Wrote c (λ b. f b ++ g (b + n)) e
-wrote_both c f g n w e v = v ∙ wrote_then c f g n w e
-
 no_more : (c : Code) → c ≡ c ++ []
 no_more [] = refl
 no_more (x ∷ xs) = ap (λ (ys : Code). x ∷ ys) (no_more xs)
@@ -53,11 +49,6 @@ instr_code instr b = instr ∷ []
 
 -- ---- starts
 
-pub started_written : (line : ℕ) (ctype : CType) (place : ℕ) (x : Expr) (scope : Scope) (c : Code) {d e f : Code} → Wrote c (piece_of x scope).code d
-    → e ≡ d ++ i.Write line storage.Local ctype (At place) ∷ [] → f ≡ e ++ i.Drop ∷ [] → Wrote c (started line ctype place (Some x) scope).code f
-started_written line ctype place x scope c {d} {e} w v u = u ∙ (ap (λ (y : Code). y ++ i.Drop ∷ []) v ∙ (append_assoc d (i.Write line storage.Local ctype (At place) ∷ []) (i.Drop ∷ [])
-    ∙ wrote_then c (piece_of x scope).code (λ b. i.Write line storage.Local ctype (At place) ∷ i.Drop ∷ []) (piece_of x scope).size w (expr_sized x scope (length c))))
-
 started_sized : (line : ℕ) (ctype : CType) (place : ℕ) (x : Option Expr) (scope : Scope) (b : ℕ) → length ((started line ctype place x scope).code b) ≡ (started line ctype place x scope).size
 started_sized line ctype place None scope b = refl
 started_sized line ctype place (Some x) scope b = let p = piece_of x scope in omega (arith, length-append (p.code b) (i.Write line storage.Local ctype (At place) ∷ i.Drop ∷ []), expr_sized x scope b)
@@ -66,9 +57,6 @@ started_sized line ctype place (Some x) scope b = let p = piece_of x scope in om
 
 abbrev pub locals_code : CType → List Local → Scope → ℕ → ℕ → ℕ → Code
 locals_code ctype xs scope k l b = (locals_strip ctype xs scope).code b k l
-
-abbrev pub handles_code : List Place → Scope → ℕ → ℕ → ℕ → Code
-handles_code xs scope k l b = (handles_strip xs scope).code b k l
 
 pub local_written : (ctype : CType) (xs : List Local) (n : ℕ) (x : Local) (scope : Scope) (k l : ℕ) (c : Code) {d e : Code} {after : Scope} → n < length xs → x ≡ get_or xs n x
     → d ≡ c ++ i.Clear scope.counts.places (taken (size_in scope x.place.size)) ∷ [] → after ≡ with_local scope x.place.word.name ctype (size_in scope x.place.size)
@@ -83,15 +71,6 @@ local_written ctype xs n x scope k l c {d} {e} {after} less at cleared is w =
     ∙ (ap (λ (m : Scope). c ++ ((clear ∷ []) ++ ((started x.place.word.spot.line ctype scope.counts.places x.start m).code (length c + 1)
     ++ locals_code ctype (drop (n + 1) xs) m k l (length c + 1 + (started x.place.word.spot.line ctype scope.counts.places x.start m).size)))) is
     ∙ sym (ap (λ (ys : List Local). c ++ locals_code ctype ys scope k l (length c)) (lists.first_of xs n x less at))))
-
-pub handle_written : (xs : List Place) (n : ℕ) (x : Place) (scope : Scope) (k l : ℕ) (c : Code) {d : Code} {after : Scope} → n < length xs → x ≡ get_or xs n x
-    → d ≡ c ++ i.Clear scope.counts.places (taken (size_in scope x.size)) ∷ [] → after ≡ with_handle scope x.word.name (size_in scope x.size)
-    → d ++ handles_code (drop (n + 1) xs) after k l (length d) ≡ c ++ handles_code (drop n xs) scope k l (length c)
-handle_written xs n x scope k l c {d} {after} less at cleared is =
-    let clear = i.Clear scope.counts.places (taken (size_in scope x.size)) in
-    wrote_then c (instr_code clear) (handles_code (drop (n + 1) xs) after k l) 1 cleared refl
-    ∙ (ap (λ (m : Scope). c ++ ((clear ∷ []) ++ handles_code (drop (n + 1) xs) m k l (length c + 1))) is
-    ∙ sym (ap (λ (ys : List Place). c ++ handles_code ys scope k l (length c)) (lists.first_of xs n x less at)))
 
 -- ---- statements in order
 
@@ -204,14 +183,6 @@ for_written x spot start test next body scope k l c {d} {e} is w inner_is v = le
     v ∙ (ap (λ (m : Scope). with_strip d (turning_strip spot.line test next body m) 0 0) inner_is
     ∙ (wrote_then c (λ b. o.code b k l) (λ b. (turning_strip spot.line test next body (passed_optional start (entered scope))).code b 0 0) o.size w (optional_strip_sized start (entered scope) (length c) k l)
     ∙ sym (ap (λ (y : Code). c ++ y) (for_code x spot start test next body scope (length c) k l is))))
-
--- ---- `return`
-
-pub return_written : (x : Stmt) (spot : Spot) (value : Option Expr) (scope : Scope) (k l : ℕ) (c : Code) {d e : Code} → x ≡ s.Return spot value → Wrote c (optional_piece value (i.Push nothing) scope).code d
-    → e ≡ d ++ i.Return spot.line ∷ [] → e ≡ with_strip c (strip_of x scope) k l
-return_written x spot value scope k l c is w v = let p = optional_piece value (i.Push nothing) scope in
-    v ∙ (wrote_then c p.code (instr_code (i.Return spot.line)) p.size w (optional_sized value (i.Push nothing) scope (length c))
-    ∙ sym (ap (λ (r : Run Laying). c ++ (r.run scope).code (length c) k l) (return_is x spot value is)))
 
 -- ---- as the functions write them
 

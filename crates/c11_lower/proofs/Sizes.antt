@@ -1,28 +1,29 @@
 -- The size of each kind of statement, by its parts.
 use Rattle.std.proofs.Common.{◌≡◌, ℕ, ◌+◌, List, [], ◌∷◌, length, Option, Some, None, refl, ap, ◌∙◌, arith, map, take}
-use Rattle.c11_num.specs.declared.value.CType.{CType}
 use Rattle.c11_ast.specs.declared.place.Spot.{Spot}
 use Rattle.c11_ast.specs.declared.place.Place.{Place}
 use Rattle.c11_ast.specs.declared.expr.Expr.{Expr}
-use Rattle.c11_ast.specs.declared.stmt.Local.{Local}
 use Rattle.c11_ast.specs.declared.stmt.Stmt.{Stmt}
 use Rattle.c11_ast.specs.declared.stmt.Stmt.TheVariants as s
 use Rattle.c11_ast.specs.declared.stmt.Arm.{Arm}
-use Rattle.c11_ast.specs.declared.stmt.Block.{Block}
 use Rattle.c11_check.specs.Scopes.{Scope, Named, entered, size_in, with_handle}
 use Rattle.c11_meaning.specs.Statements.{Run, Armed}
 use Rattle.c11_flat.specs.declared.instr.Instr.{Instr}
-use Rattle.c11_flat.specs.Pieces.{piece_of}
 use Rattle.c11_flat.specs.Code.{Laying, optional_run, optional_piece, optional_alone, started, locals_strip, handles_strip}
 use Rattle.c11_flat.specs.Code as code
-use Rattle.c11_lower.specs.Lowered.{laid, armed, strip_of, strip_of_all, optional_strip, arms_size, optional_size, alone_size, started_size, passed, passed_optional}
+use Rattle.c11_lower.specs.Lowered.{laid, armed, strip_of, optional_strip, arms_size, optional_size, alone_size, loop_size, passed, passed_optional}
 use Rattle.c11_lower.proofs.Walks.{Grows, taken_back}
-use Rattle.c11_lower.proofs.Stmts.{arm_is, block_is, empty_is, expr_is, if_none_is, if_some_is, while_is, do_is, for_none_is, for_some_is, break_is, continue_is, return_is, locals_are, handles_are}
+use Rattle.c11_lower.proofs.Stmts.{arm_is, if_none_is, if_some_is, for_none_is, for_some_is, handles_are}
 
 -- ---- going back
 
 pub restored : (scope inner : Scope) → Grows scope.names inner.names → record { names = take (length scope.names) inner.names; start = scope.start; counts = scope.counts } ≡ scope
 restored scope inner grows = ap (λ (xs : List Named). record { names = xs; start = scope.start; counts = scope.counts }) (taken_back scope.names inner.names grows)
+
+-- what was gone back to, from a scope that only grew
+pub gone_back : (scope inner mid : Scope) {after : Scope} → inner ≡ mid → Grows scope.names mid.names
+    → after ≡ record { names = take (length scope.names) inner.names; start = scope.start; counts = scope.counts } → after ≡ scope
+gone_back scope inner mid is grows back = back ∙ (ap (λ (m : Scope). record { names = take (length scope.names) m.names; start = scope.start; counts = scope.counts }) is ∙ restored scope mid grows)
 
 -- ---- what may be left out
 
@@ -34,23 +35,10 @@ pub alone_sizes : (x : Option Expr) (scope : Scope) → (optional_alone x scope)
 alone_sizes None scope = refl
 alone_sizes (Some x) scope = refl
 
-pub started_sizes : (line : ℕ) (ctype : CType) (place : ℕ) (x : Option Expr) (scope : Scope) → (started line ctype place x scope).size ≡ started_size x scope
-started_sizes line ctype place None scope = refl
-started_sizes line ctype place (Some x) scope = refl
-
 -- ---- statements
 
 abbrev size_at : Scope → Run Laying → ℕ
 size_at scope r = (r.run scope).size
-
-pub size_block : (x : Stmt) (block : Block) (scope : Scope) → x ≡ s.Block block → (strip_of x scope).size ≡ (strip_of_all block.items (entered scope)).size
-size_block x block scope is = ap (size_at scope) (block_is x block is)
-
-pub size_empty : (x : Stmt) (spot : Spot) (scope : Scope) → x ≡ s.Empty spot → (strip_of x scope).size ≡ 0
-size_empty x spot scope is = ap (size_at scope) (empty_is x spot is)
-
-pub size_expr : (x : Stmt) (expr : Expr) (scope : Scope) → x ≡ s.Expr expr → (strip_of x scope).size ≡ (piece_of expr scope).size + 1
-size_expr x expr scope is = ap (size_at scope) (expr_is x expr is)
 
 abbrev first_size : Armed Laying → List (Armed Laying) → Option (Run Laying) → Scope → ℕ
 first_size a rest otherwise scope = (code.first_of (a ∷ rest) otherwise scope).size
@@ -65,16 +53,6 @@ pub size_if : (x : Stmt) (spot : Spot) (arms : List Arm) (otherwise : Option Stm
 size_if x spot arms None scope is = ap (size_at scope) (if_none_is x spot arms is) ∙ size_arms arms None scope
 size_if x spot arms (Some another) scope is = ap (size_at scope) (if_some_is x spot arms another is) ∙ size_arms arms (Some (laid another)) scope
 
-pub size_while : (x : Stmt) (spot : Spot) (test : Expr) (body : Stmt) (scope : Scope) → x ≡ s.While spot test body → (strip_of x scope).size ≡ (strip_of body scope).size + (piece_of test scope).size + 2
-size_while x spot test body scope is = ap (size_at scope) (while_is x spot test body is) ∙ omega arith
-
-pub size_do : (x : Stmt) (spot : Spot) (body : Stmt) (test : Expr) (scope : Scope) → x ≡ s.Do spot body test → (strip_of x scope).size ≡ (strip_of body scope).size + (piece_of test (passed body scope)).size + 2
-size_do x spot body test scope is = ap (size_at scope) (do_is x spot body test is) ∙ omega arith
-
--- a loop whose next stands behind its body
-abbrev pub loop_size : Option Expr → Option Expr → Stmt → Scope → ℕ
-loop_size test next body scope = (strip_of body scope).size + alone_size next scope + optional_size test scope + 2
-
 loop_sizes : (line : ℕ) (test next : Option Expr) (instr : Instr) (body : Stmt) (scope : Scope) → (code.turning line (optional_piece test instr scope) (strip_of body scope) (optional_alone next scope)).size ≡ loop_size test next body scope
 loop_sizes line test next instr body scope = omega (arith, optional_sizes test instr scope, alone_sizes next scope)
 
@@ -84,31 +62,9 @@ size_for x spot None test next body scope is = ap (size_at scope) (for_none_is x
 size_for x spot (Some start) test next body scope is = ap (size_at scope) (for_some_is x spot start test next body is)
     ∙ ap (λ (n : ℕ). (strip_of start (entered scope)).size + n) (loop_sizes spot.line test next _ body (passed start (entered scope)))
 
-pub size_break : (x : Stmt) (spot : Spot) (scope : Scope) → x ≡ s.Break spot → (strip_of x scope).size ≡ 1
-size_break x spot scope is = ap (size_at scope) (break_is x spot is)
-
-pub size_continue : (x : Stmt) (spot : Spot) (scope : Scope) → x ≡ s.Continue spot → (strip_of x scope).size ≡ 1
-size_continue x spot scope is = ap (size_at scope) (continue_is x spot is)
-
-pub size_return : (x : Stmt) (spot : Spot) (value : Option Expr) (scope : Scope) → x ≡ s.Return spot value → (strip_of x scope).size ≡ optional_size value scope + 1
-size_return x spot value scope is = ap (size_at scope) (return_is x spot value is) ∙ ap (λ (n : ℕ). n + 1) (optional_sizes value _ scope)
-
-pub size_locals : (x : Stmt) (spot : Spot) (ctype : CType) (locals : List Local) (scope : Scope) → x ≡ s.Locals spot ctype locals → (strip_of x scope).size ≡ (locals_strip ctype locals scope).size
-size_locals x spot ctype locals scope is = ap (size_at scope) (locals_are x spot ctype locals is)
-
 handles_sizes : (xs : List Place) (scope : Scope) → (handles_strip xs scope).size ≡ length xs
 handles_sizes [] scope = refl
 handles_sizes (x ∷ xs) scope = omega (arith, handles_sizes xs (with_handle scope x.word.name (size_in scope x.size)))
 
 pub size_handles : (x : Stmt) (spot : Spot) (places : List Place) (scope : Scope) → x ≡ s.Handles spot places → (strip_of x scope).size ≡ length places
 size_handles x spot places scope is = ap (size_at scope) (handles_are x spot places is) ∙ handles_sizes places scope
-
--- what was gone back to, from a scope that only grew
-pub gone_back : (scope inner mid : Scope) {after : Scope} → inner ≡ mid → Grows scope.names mid.names
-    → after ≡ record { names = take (length scope.names) inner.names; start = scope.start; counts = scope.counts } → after ≡ scope
-gone_back scope inner mid is grows back = back ∙ (ap (λ (m : Scope). record { names = take (length scope.names) m.names; start = scope.start; counts = scope.counts }) is ∙ restored scope mid grows)
-
--- what a `for` adds up to
-pub for_sum : {begun begun' rest done done' turned next next' tested test test' : ℕ} → begun ≡ begun' → rest ≡ done + turned → turned ≡ next + tested → tested ≡ test + 2
-    → done ≡ done' → next ≡ next' → test ≡ test' → begun + rest ≡ begun' + (done' + next' + test' + 2)
-for_sum a b c d e f g = omega (arith, a, b, c, d, e, f, g)

@@ -1,10 +1,8 @@
 -- Each kind of statement, by its parts.
 use Rattle.std.proofs.Common.{◌≡◌, List, Option, Some, None, ap, ◌∙◌, sym, map}
-use Rattle.c11_num.specs.declared.value.CType.{CType}
 use Rattle.c11_ast.specs.declared.place.Spot.{Spot}
 use Rattle.c11_ast.specs.declared.place.Place.{Place}
 use Rattle.c11_ast.specs.declared.expr.Expr.{Expr}
-use Rattle.c11_ast.specs.declared.stmt.Local.{Local}
 use Rattle.c11_ast.specs.declared.stmt.Stmt.{Stmt, roll-Stmt, map-Stmt}
 use Rattle.c11_ast.specs.declared.stmt.Stmt.TheVariants as s
 use Rattle.c11_ast.specs.declared.stmt.Arm.{Arm}
@@ -30,12 +28,6 @@ block_of_is x = fold_out-Block (Run Laying) (Armed Laying) (Run Laying) layer ar
 pub block_is : (x : Stmt) (block : Block) → x ≡ s.Block block → laid x ≡ layer (Stmt-F.Block (block_step in_order (record { spot = block.spot; items = map laid block.items; close = block.close })))
 block_is x block is = ap laid (is ∙ sym (s.rolls-Block block)) ∙ (rolled (Stmt-F.Block block) ∙ ap (λ (r : Run Laying). layer (Stmt-F.Block r)) (block_of_is block))
 
-pub empty_is : (x : Stmt) (spot : Spot) → x ≡ s.Empty spot → laid x ≡ layer (Stmt-F.Empty spot)
-empty_is x spot is = ap laid (is ∙ sym (s.rolls-Empty spot)) ∙ rolled (Stmt-F.Empty spot)
-
-pub expr_is : (x : Stmt) (expr : Expr) → x ≡ s.Expr expr → laid x ≡ layer (Stmt-F.Expr expr)
-expr_is x expr is = ap laid (is ∙ sym (s.rolls-Expr expr)) ∙ rolled (Stmt-F.Expr expr)
-
 pub if_none_is : (x : Stmt) (spot : Spot) (arms : List Arm) → x ≡ s.If spot arms None → laid x ≡ layer (Stmt-F.If spot (map armed arms) None)
 if_none_is x spot arms is = ap laid (is ∙ sym (s.rolls-If spot arms None)) ∙ rolled (Stmt-F.If spot arms None)
 
@@ -53,18 +45,6 @@ for_none_is x spot test next body is = ap laid (is ∙ sym (s.rolls-For spot Non
 
 pub for_some_is : (x : Stmt) (spot : Spot) (start : Stmt) (test next : Option Expr) (body : Stmt) → x ≡ s.For spot (Some start) test next body → laid x ≡ layer (Stmt-F.For spot (Some (laid start)) test next (laid body))
 for_some_is x spot start test next body is = ap laid (is ∙ sym (s.rolls-For spot (Some start) test next body)) ∙ rolled (Stmt-F.For spot (Some start) test next body)
-
-pub break_is : (x : Stmt) (spot : Spot) → x ≡ s.Break spot → laid x ≡ layer (Stmt-F.Break spot)
-break_is x spot is = ap laid (is ∙ sym (s.rolls-Break spot)) ∙ rolled (Stmt-F.Break spot)
-
-pub continue_is : (x : Stmt) (spot : Spot) → x ≡ s.Continue spot → laid x ≡ layer (Stmt-F.Continue spot)
-continue_is x spot is = ap laid (is ∙ sym (s.rolls-Continue spot)) ∙ rolled (Stmt-F.Continue spot)
-
-pub return_is : (x : Stmt) (spot : Spot) (value : Option Expr) → x ≡ s.Return spot value → laid x ≡ layer (Stmt-F.Return spot value)
-return_is x spot value is = ap laid (is ∙ sym (s.rolls-Return spot value)) ∙ rolled (Stmt-F.Return spot value)
-
-pub locals_are : (x : Stmt) (spot : Spot) (ctype : CType) (locals : List Local) → x ≡ s.Locals spot ctype locals → laid x ≡ layer (Stmt-F.Locals spot ctype locals)
-locals_are x spot ctype locals is = ap laid (is ∙ sym (s.rolls-Locals spot ctype locals)) ∙ rolled (Stmt-F.Locals spot ctype locals)
 
 pub handles_are : (x : Stmt) (spot : Spot) (places : List Place) → x ≡ s.Handles spot places → laid x ≡ layer (Stmt-F.Handles spot places)
 handles_are x spot places is = ap laid (is ∙ sym (s.rolls-Handles spot places)) ∙ rolled (Stmt-F.Handles spot places)

@@ -247,6 +247,3 @@ behind_all (x ∷ xs) s = behind_all xs (passed x s)
 pub optional_kept : (x : Option Stmt) (s : Scope) → Grows s.names (passed_optional x s).names
 optional_kept None s = grows_not s.names
 optional_kept (Some x) s = passed_kept x s
-
-pub for_kept : (start : Option Stmt) (body : Stmt) (s : Scope) → Grows s.names (passed body (passed_optional start s)).names
-for_kept start body s = grows_on s.names (passed_optional start s).names (passed body (passed_optional start s)).names (optional_kept start s) (passed_kept body (passed_optional start s))

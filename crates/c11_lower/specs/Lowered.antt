@@ -84,6 +84,10 @@ abbrev pub started_size : Option Expr → Scope → ℕ
 started_size None scope = 0
 started_size (Some expr) scope = (piece_of expr scope).size + 2
 
+-- a loop whose next stands behind its body
+abbrev pub loop_size : Option Expr → Option Expr → Stmt → Scope → ℕ
+loop_size test next body scope = (strip_of body scope).size + alone_size next scope + optional_size test scope + 2
+
 -- ---- code
 
 abbrev pub laid_optional : Option Stmt → Option (Run Laying)
@@ -115,6 +119,11 @@ turning_strip line test next body scope = turning line (optional_piece test (i.P
 
 abbrev pub do_strip : ℕ → Stmt → Expr → Laying
 do_strip line body test scope = repeating line (strip_of body scope) (piece_of test (passed body scope))
+
+-- a `return`
+abbrev pub return_strip : ℕ → Option Expr → Laying
+return_strip line value scope = let p = optional_piece value (i.Push nothing) scope in
+    record { size = p.size + 1; code = λ b breaks continues. p.code b ++ i.Return line ∷ [] }
 
 -- the body of a function, and what is behind it
 abbrev pub body_code : Block → Scope → ℕ → List Instr

@@ -5,6 +5,7 @@ ghost use Rattle.c11_flat.specs.Code as code_of;
 ghost use Rattle.c11_flat.specs.declared.instr.Instr.TheVariants as i;
 ghost use Rattle.c11_check.specs.Scopes as scope;
 ghost use Rattle.c11_meaning.specs.Objects as value;
+ghost use Rattle.c11_lower.specs.Lowered as spec;
 
 use c11_ast::Expr;
 use c11_check::scopes::Scopes;
@@ -86,6 +87,20 @@ pub(crate) fn emit_optional_alone(
         Some(expr) => emit_alone(code, scopes, expr),
         None => Ok(()),
     }
+}
+
+/// A `return`, with its value or none.
+pub(crate) fn emit_return(
+    code: &mut Vec<Instr>,
+    scopes: &Scopes,
+    line: u32,
+    value: &Option<Expr>,
+) -> Result<(), NoMemory>
+    ensures { OnOk result (code.new.items ≡ spec.with_strip code.old.items (spec.return_strip line value.now scopes.now) 0 0) }
+{
+    emit_optional(code, scopes, value, push_nothing())?;
+    put(code, Instr::Return { line })?;
+    Ok(())
 }
 
 /// What a local at this place starts with, if it has a start.

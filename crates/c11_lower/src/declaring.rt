@@ -5,6 +5,7 @@ ghost use Rattle.c11_flat.specs.Code.{locals_strip, handles_strip};
 ghost use Rattle.c11_lower.specs.Lowered as spec;
 
 use crate::append::{emit_clear, emit_started};
+use crate::passing::mark;
 use c11_ast::{Local, Place};
 use c11_check::declarations::size_in;
 use c11_check::scopes::Scopes;
@@ -12,8 +13,8 @@ use c11_check::statements::{declare_handle, declare_local};
 use c11_flat::Instr;
 use c11_num::{CType, NoMemory};
 
-/// Variables and arrays, one after the other; they are declared.
-pub(crate) fn emit_locals<'a>(
+// Variables and arrays, one after the other; they are declared.
+fn declare_locals<'a>(
     code: &mut Vec<Instr>,
     scopes: &mut Scopes<'a>,
     ctype: CType,
@@ -33,8 +34,8 @@ pub(crate) fn emit_locals<'a>(
     Ok(())
 }
 
-/// Handles, one after the other; they are declared.
-pub(crate) fn emit_handles<'a>(
+// Handles, one after the other; they are declared.
+fn declare_handles<'a>(
     code: &mut Vec<Instr>,
     scopes: &mut Scopes<'a>,
     places: &'a [Place],
@@ -44,9 +45,40 @@ pub(crate) fn emit_handles<'a>(
 {
     for handle in places {
         let place = scopes.counts().places;
-        let size = size_in(scopes, &handle.size);
-        emit_clear(code, place, size)?;
-        declare_handle(scopes, &handle.word, size)?;
+        let elements = size_in(scopes, &handle.size);
+        emit_clear(code, place, elements)?;
+        declare_handle(scopes, &handle.word, elements)?;
     }
+    Ok(())
+}
+
+/// Variables and arrays, one after the other. The scopes are as before behind them.
+pub(crate) fn emit_locals<'a>(
+    code: &mut Vec<Instr>,
+    scopes: &mut Scopes<'a>,
+    ctype: CType,
+    locals: &'a [Local],
+) -> Result<(), NoMemory>
+    ensures code { OnOk result ((k l : ℕ) → code.new.items ≡ code.old.items ++ (locals_strip ctype locals.now scopes.old).code (length code.old.items) k l) }
+    ensures same { OnOk result (scopes.new ≡ scopes.old) }
+{
+    let mark = mark(scopes);
+    declare_locals(code, scopes, ctype, locals)?;
+    scopes.go_back(mark);
+    Ok(())
+}
+
+/// Handles, one after the other. The scopes are as before behind them.
+pub(crate) fn emit_handles<'a>(
+    code: &mut Vec<Instr>,
+    scopes: &mut Scopes<'a>,
+    places: &'a [Place],
+) -> Result<(), NoMemory>
+    ensures code { OnOk result ((k l : ℕ) → code.new.items ≡ code.old.items ++ (handles_strip places.now scopes.old).code (length code.old.items) k l) }
+    ensures same { OnOk result (scopes.new ≡ scopes.old) }
+{
+    let mark = mark(scopes);
+    declare_handles(code, scopes, places)?;
+    scopes.go_back(mark);
     Ok(())
 }

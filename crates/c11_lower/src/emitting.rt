@@ -1,16 +1,17 @@
 //! The code of statements. The scopes are as before behind each; who goes on behind it goes past it.
 
 ghost use Rattle.std.specs.Prelude.{◌≡◌, ◌+◌, ◌++◌, length, Option, IfOk, OnOk};
+ghost use Rattle.c11_check.specs.Scopes as scope;
 ghost use Rattle.c11_lower.specs.Lowered as spec;
 ghost use Rattle.c11_ast.specs.declared.stmt.Stmt.{Stmt as SpecStmt};
 
 use crate::append::{
-    emit_alone, emit_optional, emit_optional_alone, plus, push_nothing, push_one, put,
+    emit_alone, emit_optional, emit_optional_alone, emit_return, plus, push_one, put,
 };
 use crate::declaring::{emit_handles, emit_locals};
 use crate::measuring::{alone_size, optional_size, stmt_size};
-use crate::passing::{emit_behind, mark, pass, pass_optional, size_behind};
-use c11_ast::{Arm, Boxed, Expr, Stmt};
+use crate::passing::{emit_behind, pass, pass_optional, size_behind};
+use c11_ast::{Arm, Block, Boxed, Expr, Stmt};
 use c11_check::scopes::Scopes;
 use c11_flat::Instr;
 use c11_num::NoMemory;
@@ -29,36 +30,20 @@ pub(crate) fn emit_stmt<'a>(
     ensures same { OnOk result (scopes.new ≡ scopes.old) }
 {
     match stmt {
-        Stmt::Block(block) => {
-            let mark = scopes.enter();
-            emit_all(code, scopes, block.items.as_slice(), breaks, continues)?;
-            scopes.go_back(mark);
-            Ok(())
-        }
-        Stmt::Empty(_) => Ok(()),
-        Stmt::Expr(expr) => {
-            emit_alone(code, scopes, expr)?;
-            Ok(())
-        }
+        Stmt::Block(block) => emit_block(code, scopes, block, breaks, continues)?,
+        Stmt::Empty(_) => {}
+        Stmt::Expr(expr) => emit_alone(code, scopes, expr)?,
         Stmt::If {
             arms,
             otherwise,
             ..
         } => {
-            let size = stmt_size(scopes, stmt)?;
-            let end = plus(code.len(), size)?;
+            let end = plus(code.len(), stmt_size(scopes, stmt)?)?;
             emit_arms(code, scopes, arms.as_slice(), end, breaks, continues)?;
             emit_other(code, scopes, otherwise, breaks, continues)?;
-            Ok(())
         }
-        Stmt::While { spot, test, body } => {
-            emit_while(code, scopes, spot.line, body.get(), test)?;
-            Ok(())
-        }
-        Stmt::Do { spot, body, test } => {
-            emit_do(code, scopes, spot.line, body.get(), test)?;
-            Ok(())
-        }
+        Stmt::While { spot, test, body } => emit_while(code, scopes, spot.line, body.get(), test)?,
+        Stmt::Do { spot, body, test } => emit_do(code, scopes, spot.line, body.get(), test)?,
         Stmt::For {
             spot,
             start,
@@ -71,34 +56,32 @@ pub(crate) fn emit_stmt<'a>(
             pass_optional(scopes, start)?;
             emit_turning(code, scopes, spot.line, test, next, body.get())?;
             scopes.go_back(mark);
-            Ok(())
         }
-        Stmt::Break(_) => {
-            put(code, Instr::Jump(breaks))?;
-            Ok(())
-        }
-        Stmt::Continue(_) => {
-            put(code, Instr::Jump(continues))?;
-            Ok(())
-        }
-        Stmt::Return { spot, value } => {
-            emit_optional(code, scopes, value, push_nothing())?;
-            put(code, Instr::Return { line: spot.line })?;
-            Ok(())
-        }
-        Stmt::Locals { ctype, locals, .. } => {
-            let mark = mark(scopes);
-            emit_locals(code, scopes, *ctype, locals.as_slice())?;
-            scopes.go_back(mark);
-            Ok(())
-        }
-        Stmt::Handles { places, .. } => {
-            let mark = mark(scopes);
-            emit_handles(code, scopes, places.as_slice())?;
-            scopes.go_back(mark);
-            Ok(())
-        }
+        Stmt::Break(_) => put(code, Instr::Jump(breaks))?,
+        Stmt::Continue(_) => put(code, Instr::Jump(continues))?,
+        Stmt::Return { spot, value } => emit_return(code, scopes, spot.line, value)?,
+        Stmt::Locals { ctype, locals, .. } => emit_locals(code, scopes, *ctype, locals.as_slice())?,
+        Stmt::Handles { places, .. } => emit_handles(code, scopes, places.as_slice())?,
     }
+    Ok(())
+}
+
+// A block.
+#[cycle(emitting)]
+fn emit_block<'a>(
+    code: &mut Vec<Instr>,
+    scopes: &mut Scopes<'a>,
+    block: &'a Block,
+    breaks: usize,
+    continues: usize,
+) -> Result<(), NoMemory>
+    ensures code { OnOk result (code.new.items ≡ spec.with_strip code.old.items (spec.strip_of_all block.now.items (scope.entered scopes.old)) breaks continues) }
+    ensures same { OnOk result (scopes.new ≡ scopes.old) }
+{
+    let mark = scopes.enter();
+    emit_all(code, scopes, block.items.as_slice(), breaks, continues)?;
+    scopes.go_back(mark);
+    Ok(())
 }
 
 /// Statements, one after the other. The scope is the one behind them.
@@ -242,10 +225,10 @@ fn emit_do<'a>(
     let done = stmt_size(scopes, body)?;
     let tested = size_behind(scopes, body, test)?;
     let top = plus(code.len(), 1)?;
-    let next = plus(top, done)?;
-    let end = plus(plus(next, tested)?, 1)?;
+    let behind = plus(top, done)?;
+    let end = plus(plus(behind, tested)?, 1)?;
     put(code, Instr::Turn { line })?;
-    emit_stmt(code, scopes, body, end, next)?;
+    emit_stmt(code, scopes, body, end, behind)?;
     emit_behind(code, scopes, body, test)?;
     put(code, Instr::TurnIf { line, to: top })?;
     Ok(())

@@ -2,11 +2,12 @@
 
 ghost use Rattle.std.specs.Prelude.{◌≡◌, length, IfOk, OnOk};
 ghost use Rattle.c11_flat.specs.Code.{locals_strip};
+ghost use Rattle.c11_check.specs.Scopes as scope;
 ghost use Rattle.c11_lower.specs.Lowered as spec;
 
 use crate::append::plus;
 use crate::passing::{mark, pass, pass_optional, size_behind};
-use c11_ast::{Arm, Boxed, Expr, Local, Stmt};
+use c11_ast::{Arm, Block, Boxed, Expr, Local, Stmt};
 use c11_check::declarations::size_in;
 use c11_check::scopes::Scopes;
 use c11_check::statements::declare_local;
@@ -43,8 +44,8 @@ fn started_size(scopes: &Scopes, expr: &Option<Expr>) -> Result<usize, NoMemory>
     }
 }
 
-// The size of declarations; they are made.
-fn locals_size<'a>(
+// The size of variables and arrays, one after the other; they are declared.
+fn declared_size<'a>(
     scopes: &mut Scopes<'a>,
     ctype: CType,
     locals: &'a [Local],
@@ -61,44 +62,46 @@ fn locals_size<'a>(
     Ok(size)
 }
 
+// The size of variables and arrays.
+fn locals_size<'a>(
+    scopes: &mut Scopes<'a>,
+    ctype: CType,
+    locals: &'a [Local],
+) -> Result<usize, NoMemory>
+    ensures size { IfOk result (λ size. size ≡ (locals_strip ctype locals.now scopes.old).size) }
+    ensures same { OnOk result (scopes.new ≡ scopes.old) }
+{
+    let mark = mark(scopes);
+    let size = declared_size(scopes, ctype, locals)?;
+    scopes.go_back(mark);
+    Ok(size)
+}
+
 /// The size of the statement.
 #[cycle(measuring)]
 pub(crate) fn stmt_size<'a>(scopes: &mut Scopes<'a>, stmt: &'a Stmt) -> Result<usize, NoMemory>
     ensures size { IfOk result (λ size. size ≡ (spec.strip_of stmt.now scopes.old).size) }
     ensures same { OnOk result (scopes.new ≡ scopes.old) }
 {
-    match stmt {
-        Stmt::Block(block) => {
-            let mark = scopes.enter();
-            let size = size_of_all(scopes, block.items.as_slice())?;
-            scopes.go_back(mark);
-            Ok(size)
-        }
-        Stmt::Empty(_) => Ok(0),
-        Stmt::Expr(expr) => {
-            let size = plus(expr_size(scopes, expr)?, 1)?;
-            Ok(size)
-        }
+    let size = match stmt {
+        Stmt::Block(block) => block_size(scopes, block)?,
+        Stmt::Empty(_) => 0,
+        Stmt::Expr(expr) => plus(expr_size(scopes, expr)?, 1)?,
         Stmt::If {
             arms,
             otherwise,
             ..
         } => {
             let first = arms_size(scopes, arms.as_slice())?;
-            let last = size_of_optional(scopes, otherwise)?;
-            let size = plus(first, last)?;
-            Ok(size)
+            plus(first, size_of_optional(scopes, otherwise)?)?
         }
         Stmt::While { test, body, .. } => {
             let tested = plus(expr_size(scopes, test)?, 2)?;
-            let size = plus(stmt_size(scopes, body.get())?, tested)?;
-            Ok(size)
+            plus(stmt_size(scopes, body.get())?, tested)?
         }
         Stmt::Do { body, test, .. } => {
-            let done = stmt_size(scopes, body.get())?;
             let tested = plus(size_behind(scopes, body.get(), test)?, 2)?;
-            let size = plus(done, tested)?;
-            Ok(size)
+            plus(stmt_size(scopes, body.get())?, tested)?
         }
         Stmt::For {
             start,
@@ -110,27 +113,46 @@ pub(crate) fn stmt_size<'a>(scopes: &mut Scopes<'a>, stmt: &'a Stmt) -> Result<u
             let mark = scopes.enter();
             let begun = size_of_optional(scopes, start)?;
             pass_optional(scopes, start)?;
-            let tested = plus(optional_size(scopes, test)?, 2)?;
-            let turned = plus(alone_size(scopes, next)?, tested)?;
-            let done = stmt_size(scopes, body.get())?;
+            let turned = turning_size(scopes, body.get(), test, next)?;
             scopes.go_back(mark);
-            let size = plus(begun, plus(done, turned)?)?;
-            Ok(size)
+            plus(begun, turned)?
         }
-        Stmt::Break(_) => Ok(1),
-        Stmt::Continue(_) => Ok(1),
-        Stmt::Return { value, .. } => {
-            let size = plus(optional_size(scopes, value)?, 1)?;
-            Ok(size)
-        }
-        Stmt::Locals { ctype, locals, .. } => {
-            let mark = mark(scopes);
-            let size = locals_size(scopes, *ctype, locals.as_slice())?;
-            scopes.go_back(mark);
-            Ok(size)
-        }
-        Stmt::Handles { places, .. } => Ok(places.len()),
-    }
+        Stmt::Break(_) => 1,
+        Stmt::Continue(_) => 1,
+        Stmt::Return { value, .. } => plus(optional_size(scopes, value)?, 1)?,
+        Stmt::Locals { ctype, locals, .. } => locals_size(scopes, *ctype, locals.as_slice())?,
+        Stmt::Handles { places, .. } => places.len(),
+    };
+    Ok(size)
+}
+
+// The size of a block.
+#[cycle(measuring)]
+fn block_size<'a>(scopes: &mut Scopes<'a>, block: &'a Block) -> Result<usize, NoMemory>
+    ensures size { IfOk result (λ size. size ≡ (spec.strip_of_all block.now.items (scope.entered scopes.old)).size) }
+    ensures same { OnOk result (scopes.new ≡ scopes.old) }
+{
+    let mark = scopes.enter();
+    let size = size_of_all(scopes, block.items.as_slice())?;
+    scopes.go_back(mark);
+    Ok(size)
+}
+
+// The size of a `for`, behind its start.
+#[cycle(measuring)]
+fn turning_size<'a>(
+    scopes: &mut Scopes<'a>,
+    body: &'a Stmt,
+    test: &Option<Expr>,
+    next: &Option<Expr>,
+) -> Result<usize, NoMemory>
+    ensures size { IfOk result (λ size. size ≡ spec.loop_size test.now next.now body.now scopes.old) }
+    ensures same { OnOk result (scopes.new ≡ scopes.old) }
+{
+    let tested = plus(optional_size(scopes, test)?, 2)?;
+    let turned = plus(alone_size(scopes, next)?, tested)?;
+    let size = plus(stmt_size(scopes, body)?, turned)?;
+    Ok(size)
 }
 
 // The size of statements, one after the other. The scope is the one behind them.

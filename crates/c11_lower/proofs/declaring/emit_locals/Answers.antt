@@ -1,22 +1,13 @@
-use Rattle.std.proofs.Common.{rules, ◌≡◌, [], ◌∷◌, ◌++◌, ◌∙◌}
-use Rattle.c11_check.specs.Scopes.{size_in, taken, with_local}
-use Rattle.c11_flat.specs.declared.instr.Instr.TheVariants as i
-use Rattle.c11_flat.specs.Code.{started}
-use Rattle.c11_lower.proofs.Behind.{local_passed}
-use Rattle.c11_lower.proofs.Codes.{Wrote, local_written}
+use Rattle.std.proofs.Common.{rules, ◌≡◌, length, take}
+use Rattle.c11_lower.specs.Lowered.{passed_locals}
+use Rattle.c11_lower.proofs.Walks.{locals_kept}
+use Rattle.c11_lower.proofs.Sizes.{gone_back}
 use Rattle.c11_lower.proofs.declaring.emit_locals.Goals as goal
 
-pub loop-local-preserved : goal.loop-local-preserved
-loop-local-preserved c =
-    let x = c.local-item.result in
-    let s = c.loop-local.scopes in
-    let xs = c.args.locals.now in
-    let n = c.loop-local.local-index in
-    let after = c.declare_local.new.scopes in
-    let cleared : c.emit_clear.new.code.items ≡ c.loop-local.code.items ++ i.Clear s.counts.places (taken (size_in s x.place.size)) ∷ [] = search rules in
-    let is : after ≡ with_local s x.place.word.name c.args.ctype (size_in s x.place.size) = search rules in
-    let w : Wrote c.emit_clear.new.code.items (started x.place.word.spot.line c.args.ctype s.counts.places x.start after).code c.emit_started.new.code.items = search rules in
-    record {
-      code = λ k l. local_written c.args.ctype xs n x s k l c.loop-local.code.items c.loop-local-test.true c.local-item.is cleared is w ∙ c.loop-local.invariant.code k l;
-      passed = local_passed c.args.ctype xs n x s c.loop-local-test.true c.local-item.is is ∙ c.loop-local.invariant.passed;
-    }
+pub returns-clause-same : goal.returns-clause-same
+returns-clause-same c =
+    let scope = c.args.scopes.now in
+    let inner = c.declare_locals.new.scopes in
+    let is : inner ≡ passed_locals c.args.ctype c.args.locals.now scope = search rules in
+    let back : c.go_back.new.self ≡ record { names = take (length scope.names) inner.names; start = scope.start; counts = scope.counts } = search rules in
+    gone_back scope inner (passed_locals c.args.ctype c.args.locals.now scope) is (locals_kept c.args.ctype c.args.locals.now scope) back

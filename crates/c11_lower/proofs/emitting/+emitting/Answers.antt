@@ -1,15 +1,15 @@
 use Rattle.std.proofs.Common.{rules, arith, ◌≡◌, ℕ, ◌+◌, [], ◌∷◌, ◌++◌, length, take, ap, ◌∙◌, subst}
 use Rattle.c11_check.specs.Scopes.{Scope, entered}
-use Rattle.c11_meaning.specs.Objects.{nothing, one}
+use Rattle.c11_meaning.specs.Objects.{one}
 use Rattle.c11_flat.specs.declared.instr.Instr.{Instr}
 use Rattle.c11_flat.specs.declared.instr.Instr.TheVariants as i
 use Rattle.c11_flat.specs.Pieces.{piece_of}
 use Rattle.c11_flat.specs.Code.{optional_piece, optional_alone}
-use Rattle.c11_lower.specs.Lowered.{strip_of, optional_strip, with_strip, opening, turning_strip, optional_size, alone_size, passed, passed_all, passed_optional, passed_locals, passed_handles}
-use Rattle.c11_lower.proofs.Walks.{passed_all_kept, optional_kept, locals_kept, handles_kept}
+use Rattle.c11_lower.specs.Lowered.{strip_of, optional_strip, with_strip, opening, turning_strip, optional_size, alone_size, passed, passed_all, passed_optional}
+use Rattle.c11_lower.proofs.Walks.{passed_all_kept, optional_kept}
 use Rattle.c11_lower.proofs.Sizes.{gone_back}
 use Rattle.c11_lower.proofs.Behind.{stmt_passed}
-use Rattle.c11_lower.proofs.Codes.{Wrote, stmt_written, arm_ends, arm_put, turning_put, while_put, do_put, for_written, return_written}
+use Rattle.c11_lower.proofs.Codes.{Wrote, stmt_written, arm_ends, arm_put, turning_put, while_put, do_put, for_written}
 use Rattle.c11_lower.proofs.emitting.+emitting.Goals as goal
 
 pub emit_all-loop-stmt-preserved : goal.emit_all-loop-stmt-preserved
@@ -60,65 +60,15 @@ emit_do-returns-clause-code t c =
     let done : c.in_ok-done.done ≡ (strip_of body scope).size = search rules in
     let tested : c.in_ok-tested.tested ≡ (piece_of test (passed body scope)).size = search rules in
     let top : c.in_ok-top.top ≡ length c.args.code.now.items + 1 = search rules in
-    let next : c.in_ok-next.next ≡ c.in_ok-top.top + c.in_ok-done.done = search rules in
-    let sum : c.in_ok-plus.field-0 ≡ c.in_ok-next.next + c.in_ok-tested.tested = search rules in
+    let behind : c.in_ok-behind.behind ≡ c.in_ok-top.top + c.in_ok-done.done = search rules in
+    let sum : c.in_ok-plus.field-0 ≡ c.in_ok-behind.behind + c.in_ok-tested.tested = search rules in
     let end : c.in_ok-end.end ≡ c.in_ok-plus.field-0 + 1 = search rules in
     let end' = end ∙ ap (λ (m : ℕ). m + 1) sum in
     let w : c.put.new.code.items ≡ c.args.code.now.items ++ i.Turn c.args.line ∷ [] = search rules in
-    let v : c.emit_stmt.new.code.items ≡ with_strip c.put.new.code.items (strip_of body scope) c.in_ok-end.end c.in_ok-next.next = search rules in
+    let v : c.emit_stmt.new.code.items ≡ with_strip c.put.new.code.items (strip_of body scope) c.in_ok-end.end c.in_ok-behind.behind = search rules in
     let u : Wrote c.emit_stmt.new.code.items (piece_of test (passed body scope)).code c.emit_behind.new.code.items = search rules in
     let z : c.put-2.new.code.items ≡ c.emit_behind.new.code.items ++ i.TurnIf c.args.line c.in_ok-top.top ∷ [] = search rules in
-    do_put c.args.line c.in_ok-top.top c.in_ok-done.done c.in_ok-tested.tested c.in_ok-next.next c.in_ok-end.end test body scope c.args.code.now.items done tested top next end' w v u z
-
-pub emit_stmt-returns-in_ok-emit_all-in-Block-clause-same : goal.emit_stmt-returns-in_ok-emit_all-in-Block-clause-same
-emit_stmt-returns-in_ok-emit_all-in-Block-clause-same t c =
-    let scope = c.args.scopes.now in
-    let inner = c.emit_all.new.scopes in
-    let is : inner ≡ passed_all c.in-Block.block.items (entered scope) = search rules in
-    let back : c.go_back.new.self ≡ record { names = take (length scope.names) inner.names; start = scope.start; counts = scope.counts } = search rules in
-    gone_back scope inner (passed_all c.in-Block.block.items (entered scope)) is (passed_all_kept c.in-Block.block.items (entered scope)) back
-
-pub emit_stmt-returns-in_ok-emit_turning-in-For-clause-code : goal.emit_stmt-returns-in_ok-emit_turning-in-For-clause-code
-emit_stmt-returns-in_ok-emit_turning-in-For-clause-code t c =
-    let scope = c.args.scopes.now in
-    let w : c.emit_other-in-For.new.code.items ≡ with_strip c.args.code.now.items (optional_strip c.in-For.start (entered scope)) c.args.breaks c.args.continues = search rules in
-    let mid : c.pass_optional.new.scopes ≡ passed_optional c.in-For.start (entered scope) = search rules in
-    let v : c.emit_turning.new.code.items ≡ with_strip c.emit_other-in-For.new.code.items (turning_strip c.in-For.spot.line c.in-For.test c.in-For.next c.in-For.body c.pass_optional.new.scopes) 0 0 = search rules in
-    for_written c.args.stmt.now c.in-For.spot c.in-For.start c.in-For.test c.in-For.next c.in-For.body scope c.args.breaks c.args.continues c.args.code.now.items c.in-For.is w mid v
-
-pub emit_stmt-returns-in_ok-emit_turning-in-For-clause-same : goal.emit_stmt-returns-in_ok-emit_turning-in-For-clause-same
-emit_stmt-returns-in_ok-emit_turning-in-For-clause-same t c =
-    let scope = c.args.scopes.now in
-    let inner = c.emit_turning.new.scopes in
-    let mid = passed_optional c.in-For.start (entered scope) in
-    let is : inner ≡ mid = search rules in
-    let back : c.go_back-in-For.new.self ≡ record { names = take (length scope.names) inner.names; start = scope.start; counts = scope.counts } = search rules in
-    gone_back scope inner mid is (optional_kept c.in-For.start (entered scope)) back
-
-pub emit_stmt-returns-in_ok-put-in-Return-clause-code : goal.emit_stmt-returns-in_ok-put-in-Return-clause-code
-emit_stmt-returns-in_ok-put-in-Return-clause-code t c =
-    let scope = c.args.scopes.now in
-    let instr : c.push_nothing.result ≡ i.Push nothing = search rules in
-    let w : Wrote c.args.code.now.items (optional_piece c.in-Return.value c.push_nothing.result scope).code c.emit_optional.new.code.items = search rules in
-    let w' = subst (λ (x : Instr). Wrote c.args.code.now.items (optional_piece c.in-Return.value x scope).code c.emit_optional.new.code.items) instr w in
-    let v : c.put-in-Return.new.code.items ≡ c.emit_optional.new.code.items ++ i.Return c.in-Return.spot.line ∷ [] = search rules in
-    return_written c.args.stmt.now c.in-Return.spot c.in-Return.value scope c.args.breaks c.args.continues c.args.code.now.items c.in-Return.is w' v
-
-pub emit_stmt-returns-in_ok-emit_locals-in-Locals-clause-same : goal.emit_stmt-returns-in_ok-emit_locals-in-Locals-clause-same
-emit_stmt-returns-in_ok-emit_locals-in-Locals-clause-same t c =
-    let scope = c.args.scopes.now in
-    let inner = c.emit_locals.new.scopes in
-    let is : inner ≡ passed_locals c.in-Locals.ctype c.in-Locals.locals scope = search rules in
-    let back : c.go_back-in-Locals.new.self ≡ record { names = take (length scope.names) inner.names; start = scope.start; counts = scope.counts } = search rules in
-    gone_back scope inner (passed_locals c.in-Locals.ctype c.in-Locals.locals scope) is (locals_kept c.in-Locals.ctype c.in-Locals.locals scope) back
-
-pub emit_stmt-returns-in_ok-emit_handles-in-Handles-clause-same : goal.emit_stmt-returns-in_ok-emit_handles-in-Handles-clause-same
-emit_stmt-returns-in_ok-emit_handles-in-Handles-clause-same t c =
-    let scope = c.args.scopes.now in
-    let inner = c.emit_handles.new.scopes in
-    let is : inner ≡ passed_handles c.in-Handles.places scope = search rules in
-    let back : c.go_back-in-Handles.new.self ≡ record { names = take (length scope.names) inner.names; start = scope.start; counts = scope.counts } = search rules in
-    gone_back scope inner (passed_handles c.in-Handles.places scope) is (handles_kept c.in-Handles.places scope) back
+    do_put c.args.line c.in_ok-top.top c.in_ok-done.done c.in_ok-tested.tested c.in_ok-behind.behind c.in_ok-end.end test body scope c.args.code.now.items done tested top behind end' w v u z
 
 pub emit_turning-returns-clause-code : goal.emit_turning-returns-clause-code
 emit_turning-returns-clause-code t c =
@@ -149,3 +99,28 @@ emit_while-returns-clause-code t c =
     let z : c.put.new.code.items ≡ c.emit_expr.new.code.items ++ i.TurnIf c.args.line c.in_ok-top.top ∷ [] = search rules in
     let top : c.in_ok-top.top ≡ length c.args.code.now.items + 1 = search rules in
     while_put c.args.line c.in_ok-top.top c.in_ok-test_size.test_size c.args.test.now body scope mid c.args.code.now.items same test_size w u z top
+
+pub emit_block-returns-clause-same : goal.emit_block-returns-clause-same
+emit_block-returns-clause-same t c =
+    let scope = c.args.scopes.now in
+    let inner = c.emit_all.new.scopes in
+    let is : inner ≡ passed_all c.args.block.now.items (entered scope) = search rules in
+    let back : c.go_back.new.self ≡ record { names = take (length scope.names) inner.names; start = scope.start; counts = scope.counts } = search rules in
+    gone_back scope inner (passed_all c.args.block.now.items (entered scope)) is (passed_all_kept c.args.block.now.items (entered scope)) back
+
+pub emit_stmt-returns-in_ok-emit_turning-in-For-clause-code : goal.emit_stmt-returns-in_ok-emit_turning-in-For-clause-code
+emit_stmt-returns-in_ok-emit_turning-in-For-clause-code t c =
+    let scope = c.args.scopes.now in
+    let w : c.emit_other-in-For.new.code.items ≡ with_strip c.args.code.now.items (optional_strip c.in-For.start (entered scope)) c.args.breaks c.args.continues = search rules in
+    let mid : c.pass_optional.new.scopes ≡ passed_optional c.in-For.start (entered scope) = search rules in
+    let v : c.emit_turning.new.code.items ≡ with_strip c.emit_other-in-For.new.code.items (turning_strip c.in-For.spot.line c.in-For.test c.in-For.next c.in-For.body c.pass_optional.new.scopes) 0 0 = search rules in
+    for_written c.args.stmt.now c.in-For.spot c.in-For.start c.in-For.test c.in-For.next c.in-For.body scope c.args.breaks c.args.continues c.args.code.now.items c.in-For.is w mid v
+
+pub emit_stmt-returns-in_ok-emit_turning-in-For-clause-same : goal.emit_stmt-returns-in_ok-emit_turning-in-For-clause-same
+emit_stmt-returns-in_ok-emit_turning-in-For-clause-same t c =
+    let scope = c.args.scopes.now in
+    let inner = c.emit_turning.new.scopes in
+    let mid = passed_optional c.in-For.start (entered scope) in
+    let is : inner ≡ mid = search rules in
+    let back : c.go_back.new.self ≡ record { names = take (length scope.names) inner.names; start = scope.start; counts = scope.counts } = search rules in
+    gone_back scope inner mid is (optional_kept c.in-For.start (entered scope)) back

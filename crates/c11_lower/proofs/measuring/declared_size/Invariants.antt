@@ -1,7 +1,7 @@
 use Rattle.std.proofs.Common.{◌≡◌, ◌+◌, drop}
 use Rattle.c11_flat.specs.Code.{locals_strip}
 use Rattle.c11_lower.specs.Lowered.{passed_locals}
-use Rattle.c11_lower.proofs.measuring.locals_size.Given as goal
+use Rattle.c11_lower.proofs.measuring.declared_size.Given as goal
 
 abbrev pub invariant-loop-local : goal.invariant-loop-local
 invariant-loop-local l = record {

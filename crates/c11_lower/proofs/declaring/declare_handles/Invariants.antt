@@ -1,7 +1,7 @@
 use Rattle.std.proofs.Common.{◌≡◌, ℕ, ◌++◌, length, drop}
 use Rattle.c11_flat.specs.Code.{handles_strip}
 use Rattle.c11_lower.specs.Lowered.{passed_handles}
-use Rattle.c11_lower.proofs.declaring.emit_handles.Given as goal
+use Rattle.c11_lower.proofs.declaring.declare_handles.Given as goal
 
 abbrev pub invariant-loop-handle : goal.invariant-loop-handle
 invariant-loop-handle l = record {

@@ -1,7 +1,7 @@
 use Rattle.std.proofs.Common.{◌≡◌, ℕ, ◌++◌, length, drop}
 use Rattle.c11_flat.specs.Code.{locals_strip}
 use Rattle.c11_lower.specs.Lowered.{passed_locals}
-use Rattle.c11_lower.proofs.declaring.emit_locals.Given as goal
+use Rattle.c11_lower.proofs.declaring.declare_locals.Given as goal
 
 abbrev pub invariant-loop-local : goal.invariant-loop-local
 invariant-loop-local l = record {
