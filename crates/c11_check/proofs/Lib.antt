@@ -10,3 +10,5 @@ pub mod Stmts
 pub mod Firsts
 pub mod Cells
 pub mod Limits
+pub mod Grown
+pub mod Lying

@@ -34,7 +34,7 @@ element_count : (s : Scope) (name : List ℕ) (ctype : CType) (start : Start) (p
 element_count s name ctype start place zero = refl
 element_count s name ctype start place (suc n) = ap suc (element_count s name ctype start (place + 1) n)
 
-object_count : (s : Scope) (name : List ℕ) (ctype : CType) (start : Start) (size : Option ℕ) → length (object_cells s name ctype start size) ≡ taken size
+pub object_count : (s : Scope) (name : List ℕ) (ctype : CType) (start : Start) (size : Option ℕ) → length (object_cells s name ctype start size) ≡ taken size
 object_count s name ctype start None = refl
 object_count s name ctype start (Some n) = element_count s name ctype start 0 n
 
@@ -48,7 +48,7 @@ more_room : (limit count more : ℕ) (past : Bool) → nat_lt limit (count + mor
 more_room limit count more true is room = room
 more_room limit count more false is room = grind arith
 
-counted_var : (kind : GlobalKind) (var : Var) (d : Declared) → Counted d → Counted (declare_var kind var d)
+pub counted_var : (kind : GlobalKind) (var : Var) (d : Declared) → Counted d → Counted (declare_var kind var d)
 counted_var (g.Plain ctype) var d c = let size = size_in d.scope var.place.size in let n = d.scope.counts.plains in let inner = with_global d.scope var.place.word.name (g.Plain ctype) size in
     record {
       atomics = c.atomics;
@@ -83,7 +83,7 @@ counted_var g.Mutex var d c = let size = size_in d.scope var.place.size in let n
       function_room = c.function_room;
     }
 
-counted_vars : (kind : GlobalKind) (vars : List Var) (d : Declared) → Counted d → Counted (declare_vars kind vars d)
+pub counted_vars : (kind : GlobalKind) (vars : List Var) (d : Declared) → Counted d → Counted (declare_vars kind vars d)
 counted_vars kind [] d c = c
 counted_vars kind (var ∷ vars) d c = counted_vars kind vars (declare_var kind var d) (counted_var kind var d c)
 
@@ -99,7 +99,7 @@ counted_function f d c = let n = d.scope.counts.functions in record {
   function_room = more_room function_limit n 1 (passes function_limit n None) refl c.function_room;
 }
 
-counted_item : (i : Item) (d : Declared) → Counted d → Counted (declare_item i d)
+pub counted_item : (i : Item) (d : Declared) → Counted d → Counted (declare_item i d)
 counted_item (item.Include spot) d c = c
 counted_item (item.Define spot word value) d c = record {
   atomics = c.atomics;
@@ -125,11 +125,11 @@ var_functions (g.Plain ctype) var d = refl
 var_functions (g.Atomic ctype) var d = refl
 var_functions g.Mutex var d = refl
 
-vars_functions : (kind : GlobalKind) (vars : List Var) (d : Declared) → (declare_vars kind vars d).scope.counts.functions ≡ d.scope.counts.functions
+pub vars_functions : (kind : GlobalKind) (vars : List Var) (d : Declared) → (declare_vars kind vars d).scope.counts.functions ≡ d.scope.counts.functions
 vars_functions kind [] d = refl
 vars_functions kind (var ∷ vars) d = vars_functions kind vars (declare_var kind var d) ∙ var_functions kind var d
 
-next_count : (n : ℕ) (past : Bool) → nat_lt function_limit (n + 1) ≡ past → n + 1 ≤ function_limit → (if past then n else n + 1) ≡ n + 1
+pub next_count : (n : ℕ) (past : Bool) → nat_lt function_limit (n + 1) ≡ past → n + 1 ≤ function_limit → (if past then n else n + 1) ≡ n + 1
 next_count n true is room = absurd (grind arith)
 next_count n false is room = refl
 

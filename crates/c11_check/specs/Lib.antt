@@ -10,6 +10,7 @@ pub mod Table
 pub mod Bound
 pub mod Chains
 pub mod Walks
+pub mod Lies
 pub mod Branches
 pub mod Tables
 pub mod Checked

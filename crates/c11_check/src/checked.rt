@@ -1,5 +1,6 @@
-ghost use Rattle.std.specs.Prelude.{◌≡◌, ◌<◌, ◌≤◌, Some, length, slice_get};
-ghost use Rattle.c11_check.specs.Tables.{IsWithin};
+ghost use Rattle.std.specs.Prelude.{◌≡◌, ◌<◌, ◌≤◌, ◌^◌, Some, length, slice_get};
+ghost use Rattle.c11_check.specs.Programs.{HasNoFault};
+ghost use Rattle.c11_check.specs.Tables.{IsWithin, tables_of, main_of};
 
 use crate::tables::Tables;
 use c11_ast::Program;
@@ -12,13 +13,21 @@ pub struct Checked {
     program: Program,
     tables: Tables,
     main: u32,
+    ghost few: { length program.items < 2 ^ 32 },
+    ghost faultless: { HasNoFault program },
+    ghost own: { tables ≡ tables_of program },
+    ghost number: { main_of program ≡ Some main },
     ghost within: { IsWithin tables main },
 }
 
 impl Checked {
     // The program with its tables and the number of its `main`.
     pub(crate) fn new(program: Program, tables: Tables, main: u32) -> Checked
-        requires { IsWithin tables main }
+        requires few { length program.items < 2 ^ 32 }
+        requires faultless { HasNoFault program }
+        requires own { tables ≡ tables_of program }
+        requires number { main_of program ≡ Some main }
+        requires within { IsWithin tables main }
         ensures program { result.program ≡ program }
         ensures tables { result.tables ≡ tables }
         ensures main { result.main ≡ main }
@@ -101,9 +110,13 @@ impl Checked {
         &self.tables.functions[function as usize]
     }
 
-    /// The program.
+    /// The program, which has no fault and fewer than 2^32 items. The tables are its own.
     pub fn program(&self) -> &Program
-        ensures { result.now ≡ self.now.program }
+        ensures program { result.now ≡ self.now.program }
+        ensures few { length self.now.program.items < 2 ^ 32 }
+        ensures faultless { HasNoFault self.now.program }
+        ensures tables { self.now.tables ≡ tables_of self.now.program }
+        ensures main { main_of self.now.program ≡ Some self.now.main }
     {
         &self.program
     }

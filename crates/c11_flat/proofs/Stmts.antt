@@ -453,15 +453,17 @@ module _ (code : Whole) (callers : List Caller) (answers : Option CType) where
     -- `if`
     arms_laid : (cs : List (Armed Laying)) (ms : List (Armed Running)) (o : Option (Run Laying)) (o' : Option (Run Running)) (scope : Scope) → AllArms cs ms → MayRun o o' → IsLaid (first_of cs o scope)
     arms_laid _ _ o o' scope AllArms.nil e = may_laid o o' scope e
-    arms_laid _ _ o o' scope (AllArms.cons {cs = cs} {ms = ms} (arm test {c = c} w d) ds) e = laid_joined (of_piece (piece_of test scope)) (chosen (c scope) (first_of cs o scope)) (laid_piece (piece_of test scope) (piece_sized test scope))
-        (laid_chosen (c scope) (first_of cs o scope) (d.laid scope) (arms_laid cs ms o o' scope ds e))
+    arms_laid _ _ o o' scope (AllArms.cons {cs = cs} {ms = ms} (arm {w = w} test {c = c} same d) ds) e =
+        laid_joined (of_piece (piece_of test scope)) (chosen (c scope) (first_of cs o (behind w scope))) (laid_piece (piece_of test scope) (piece_sized test scope))
+        (laid_chosen (c scope) (first_of cs o (behind w scope)) (d.laid scope) (arms_laid cs ms o o' (behind w scope) ds e))
 
     arms_lay : (cs : List (Armed Laying)) (ms : List (Armed Running)) (o : Option (Run Laying)) (o' : Option (Run Running)) (scope : Scope) (stack : List Slot) → AllArms cs ms → MayRun o o' → Lays (first_of cs o scope) stack stack (means.first_of ms o' scope calls)
     arms_lay _ _ o o' scope stack AllArms.nil e most b k l st le lk ll has = may_lays o o' scope stack e most b k l st le lk ll has
-    arms_lay _ _ o o' scope stack (AllArms.cons {cs = cs} {ms = ms} (arm test {c = c} {m = m} w d) ds) e most b k l st le lk ll has =
-        lays_behind Any (piece_of test scope) (chosen (c scope) (first_of cs o scope)) stack (pushed code callers answers stack) stack (value_of test scope calls) (λ v st. choosing v (m scope calls st) (means.first_of ms o' scope calls st))
-        (piece_sized test scope) (piece_runs test scope stack)
-        (λ v t. lays_chosen (c scope) (first_of cs o scope) v stack (m scope calls) (means.first_of ms o' scope calls) (is_zero v) refl (d.laid scope) (arms_laid cs ms o o' scope ds e) (d.does scope stack) (arms_lay cs ms o o' scope stack ds e))
+    arms_lay _ _ o o' scope stack (AllArms.cons {cs = cs} {ms = ms} (arm {w = w} {w' = w'} test {c = c} {m = m} same d) ds) e most b k l st le lk ll has =
+        lays_behind Any (piece_of test scope) (chosen (c scope) (first_of cs o (behind w scope))) stack (pushed code callers answers stack) stack (value_of test scope calls)
+        (λ v st. choosing v (m scope calls st) (means.first_of ms o' (behind w' scope) calls st)) (piece_sized test scope) (piece_runs test scope stack)
+        (λ v t. lays_chosen (c scope) (first_of cs o (behind w scope)) v stack (m scope calls) (means.first_of ms o' (behind w' scope) calls) (is_zero v) refl (d.laid scope) (arms_laid cs ms o o' (behind w scope) ds e) (d.does scope stack)
+        (subst (λ (z : Walk). Lays (first_of cs o (behind w scope)) stack stack (means.first_of ms o' (behind z scope) calls)) same (arms_lay cs ms o o' (behind w scope) stack ds e)))
         most b k l st le lk ll has
 
     -- loops

@@ -54,7 +54,7 @@ optional_run (Some part) scope = part.run scope
 
 abbrev pub first_of : List (Armed Laying) → Option (Run Laying) → Laying
 first_of [] otherwise scope = optional_run otherwise scope
-first_of (arm ∷ arms) otherwise scope = joined (of_piece (piece_of arm.test scope)) (chosen (arm.body scope) (first_of arms otherwise scope))
+first_of (arm ∷ arms) otherwise scope = joined (of_piece (piece_of arm.test scope)) (chosen (arm.body scope) (first_of arms otherwise (behind arm.walk scope)))
 
 -- a loop: a jump to the test, the body, what comes after it, the test, and the one instruction that goes back, which counts a turn
 abbrev pub turning : ℕ → Piece → Strip → Piece → Strip

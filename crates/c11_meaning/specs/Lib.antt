@@ -1,6 +1,7 @@
 pub mod Asks
 pub mod Evaluation
 pub mod Expressions
+pub mod Legal
 pub mod Library
 pub mod Objects
 pub mod Outcome

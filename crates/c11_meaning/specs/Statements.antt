@@ -63,11 +63,11 @@ optional_run (Some part) scope calls st = part.run scope calls st
 
 -- ---- choices (C11 6.8.4.1)
 
--- the first arm whose test is not zero, else what the last `else` has
+-- the first arm whose test is not zero, else what the last `else` has; each in the scope in which it was checked
 abbrev pub first_of : List (Armed Running) → Option (Run Running) → Running
 first_of [] otherwise scope calls st = optional_run otherwise scope calls st
 first_of (arm ∷ arms) otherwise scope calls st = and_then (value_of arm.test scope calls st)
-    (λ value st. choosing value (arm.body scope calls st) (first_of arms otherwise scope calls st))
+    (λ value st. choosing value (arm.body scope calls st) (first_of arms otherwise (behind arm.walk scope) calls st))
 
 -- ---- loops (C11 6.8.5); a turn is counted each time that a body is about to be run
 

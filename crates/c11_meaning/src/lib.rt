@@ -5,3 +5,5 @@
 //! how what a name denotes is read and written, `Parts`, `Expressions` and `Library` what each form of expression does, `Evaluation`
 //! puts them together along the tree, `Statements` does the same for statements, and `Asks` says what a thread wants next.
 #![tactic(auto)]
+
+pub mod laws;
