@@ -53,3 +53,7 @@ local_passed ctype xs i x scope less at is = ap (λ (m : Scope). passed_locals c
 pub stmt_passed : (xs : List Stmt) (i : ℕ) (x : Stmt) (scope : Scope) {after : Scope} → i < length xs → x ≡ get_or xs i x
     → after ≡ passed x scope → passed_all (drop (i + 1) xs) after ≡ passed_all (drop i xs) scope
 stmt_passed xs i x scope less at is = ap (λ (m : Scope). passed_all (drop (i + 1) xs) m) is ∙ sym (ap (λ (ys : List Stmt). passed_all ys scope) (first_of xs i x less at))
+
+pub arm_passed : (xs : List Arm) (i : ℕ) (x : Arm) (scope : Scope) {after : Scope} → i < length xs → x ≡ get_or xs i x
+    → after ≡ passed x.body scope → passed_arms (drop (i + 1) xs) after ≡ passed_arms (drop i xs) scope
+arm_passed xs i x scope less at is = ap (λ (m : Scope). passed_arms (drop (i + 1) xs) m) is ∙ sym (ap (λ (ys : List Arm). passed_arms ys scope) (first_of xs i x less at))

@@ -19,8 +19,8 @@ use Rattle.c11_meaning.specs.Objects.{one}
 use Rattle.c11_meaning.specs.Statements.{Run, Armed}
 use Rattle.c11_flat.specs.Pieces.{Piece}
 use Rattle.c11_flat.specs.Code.{Strip, Laying, of_piece, of_instrs, joined, chosen, started, locals_strip, first_of, turning, repeating, optional_piece, optional_alone}
-use Rattle.c11_lower.specs.Lowered.{armed, strip_of, strip_of_all, optional_strip, alone_size, optional_size, laid_optional, arms_strip, EndsAt, with_strip, opening, while_strip, turning_strip, do_strip, passed, passed_optional}
-use Rattle.c11_lower.proofs.Stmts.{arm_is, for_none_is, for_some_is}
+use Rattle.c11_lower.specs.Lowered.{armed, strip_of, strip_of_all, optional_strip, alone_size, optional_size, laid_optional, arms_strip, EndsAt, with_strip, opening, while_strip, turning_strip, do_strip, passed, passed_arms, passed_optional}
+use Rattle.c11_lower.proofs.Stmts.{arm_is, if_none_is, if_some_is, for_none_is, for_some_is}
 use Rattle.c11_lower.proofs.Lists as lists
 use Rattle.c11_lower.proofs.Sizes.{alone_sizes, optional_sizes}
 use Rattle.c11_lower.proofs.Sized.{expr_sized, stmt_sized, alone_sized, optional_sized}
@@ -91,11 +91,11 @@ optional_strip_sized (Some x) scope b k l = stmt_sized x scope b k l
 abbrev pub arm_strip : Arm → Strip → Laying
 arm_strip x rest scope = joined (of_piece (piece_of x.test scope)) (chosen (strip_of x.body scope) rest)
 
-arms_begin : (x : Arm) (xs : List Arm) (otherwise : Option Stmt) (scope : Scope) → arms_strip (x ∷ xs) otherwise scope ≡ arm_strip x (arms_strip xs otherwise scope) scope
+arms_begin : (x : Arm) (xs : List Arm) (otherwise : Option Stmt) (scope : Scope) → arms_strip (x ∷ xs) otherwise scope ≡ arm_strip x (arms_strip xs otherwise (passed x.body scope)) scope
 arms_begin x xs otherwise scope = ap (λ (a : Armed Laying). first_of (a ∷ map armed xs) (laid_optional otherwise) scope) (arm_is x)
 
 pub arms_are : (xs : List Arm) (n : ℕ) (x : Arm) (otherwise : Option Stmt) (scope : Scope) → n < length xs → x ≡ get_or xs n x
-    → arms_strip (drop n xs) otherwise scope ≡ arm_strip x (arms_strip (drop (n + 1) xs) otherwise scope) scope
+    → arms_strip (drop n xs) otherwise scope ≡ arm_strip x (arms_strip (drop (n + 1) xs) otherwise (passed x.body scope)) scope
 arms_are xs n x otherwise scope less at = ap (λ (ys : List Arm). arms_strip ys otherwise scope) (lists.first_of xs n x less at) ∙ arms_begin x (drop (n + 1) xs) otherwise scope
 
 -- what stands of an arm, and then the rest
@@ -210,11 +210,11 @@ pub do_put : (line top done tested next end : ℕ) (test : Expr) (body : Stmt) (
 do_put line top done tested next end test body scope c done_is tested_is top_is next_is end_is w v u z = let p = piece_of test (passed body scope) in
     repeating_written line top end next p body scope c (expr_sized test (passed body scope)) w v u z top_is (next_is ∙ ap (λ (k : ℕ). top + k) done_is) (end_is ∙ ap (λ (k : ℕ). next + k + 1) tested_is)
 
-module _ (xs : List Arm) (n : ℕ) (x : Arm) (scope : Scope) (next end done k l : ℕ) (c : Code) {d e f g : Code} (less : n < length xs) (at : x ≡ get_or xs n x)
+module _ (xs : List Arm) (n : ℕ) (x : Arm) (scope : Scope) (next end done k l : ℕ) (c : Code) {d e f g : Code} {after : Scope} (less : n < length xs) (at : x ≡ get_or xs n x)
     (w : Wrote c (piece_of x.test scope).code d) (done_is : done ≡ (strip_of x.body scope).size) (next_is : next ≡ length d + done + 2) (v : e ≡ d ++ i.JumpIfZero next ∷ [])
-    (u : f ≡ with_strip e (strip_of x.body scope) k l) (z : g ≡ f ++ i.Jump end ∷ []) (otherwise : Option Stmt) (ends : EndsAt end c (drop n xs) otherwise scope) where
+    (u : f ≡ with_strip e (strip_of x.body scope) k l) (z : g ≡ f ++ i.Jump end ∷ []) (is : after ≡ passed x.body scope) (otherwise : Option Stmt) (ends : EndsAt end c (drop n xs) otherwise scope) where
   abbrev rest : Strip
-  rest = arms_strip (drop (n + 1) xs) otherwise scope
+  rest = arms_strip (drop (n + 1) xs) otherwise (passed x.body scope)
 
   here : arms_strip (drop n xs) otherwise scope ≡ arm_strip x rest scope
   here = arms_are xs n x otherwise scope less at
@@ -222,8 +222,22 @@ module _ (xs : List Arm) (n : ℕ) (x : Arm) (scope : Scope) (next end done k l 
   ends_here : end ≡ length c + (arm_strip x rest scope).size
   ends_here = ends ∙ ap (λ (p : Strip). length c + p.size) here
 
-  pub arm_ends : EndsAt end g (drop (n + 1) xs) otherwise scope
-  arm_ends = ends_here ∙ sym (arm_length x rest scope next end k l c w v u z)
+  pub arm_ends : EndsAt end g (drop (n + 1) xs) otherwise after
+  arm_ends = subst (λ (m : Scope). EndsAt end g (drop (n + 1) xs) otherwise m) (sym is) (ends_here ∙ sym (arm_length x rest scope next end k l c w v u z))
 
-  pub arm_put : with_strip g (arms_strip (drop (n + 1) xs) otherwise scope) k l ≡ with_strip c (arms_strip (drop n xs) otherwise scope) k l
-  arm_put = arm_written x rest scope next end k l c w v u z (next_is ∙ ap (λ (m : ℕ). length d + m + 2) done_is) ends_here ∙ sym (ap (λ (p : Strip). with_strip c p k l) here)
+  pub arm_put : with_strip g (arms_strip (drop (n + 1) xs) otherwise after) k l ≡ with_strip c (arms_strip (drop n xs) otherwise scope) k l
+  arm_put = ap (λ (m : Scope). with_strip g (arms_strip (drop (n + 1) xs) otherwise m) k l) is
+      ∙ (arm_written x rest scope next end k l c w v u z (next_is ∙ ap (λ (m : ℕ). length d + m + 2) done_is) ends_here ∙ sym (ap (λ (p : Strip). with_strip c p k l) here))
+
+-- an `if`: its arms, and what the last `else` has
+if_code : (x : Stmt) (spot : Spot) (arms : List Arm) (otherwise : Option Stmt) (scope : Scope) → x ≡ s.If spot arms otherwise → strip_of x scope ≡ arms_strip arms otherwise scope
+if_code x spot arms None scope is = ap (λ (r : Run Laying). r.run scope) (if_none_is x spot arms is)
+if_code x spot arms (Some another) scope is = ap (λ (r : Run Laying). r.run scope) (if_some_is x spot arms another is)
+
+pub if_put : (x : Stmt) (spot : Spot) (arms : List Arm) (otherwise : Option Stmt) (scope : Scope) (size end k l : ℕ) (c d : Code) {e : Code} {mid : Scope} → x ≡ s.If spot arms otherwise
+    → size ≡ (strip_of x scope).size → end ≡ length c + size → mid ≡ passed_arms arms scope
+    → ((o : Option Stmt) → EndsAt end c arms o scope → with_strip d (optional_strip o (passed_arms arms scope)) k l ≡ with_strip c (arms_strip arms o scope) k l)
+    → e ≡ with_strip d (optional_strip otherwise mid) k l → e ≡ with_strip c (strip_of x scope) k l
+if_put x spot arms otherwise scope size end k l c d is size_is end_is mid_is first last = let whole = if_code x spot arms otherwise scope is in
+    last ∙ (ap (λ (m : Scope). with_strip d (optional_strip otherwise m) k l) mid_is
+    ∙ (first otherwise (end_is ∙ ap (λ (n : ℕ). length c + n) (size_is ∙ ap (λ (p : Strip). p.size) whole)) ∙ sym (ap (λ (p : Strip). with_strip c p k l) whole)))

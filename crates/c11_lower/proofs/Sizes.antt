@@ -11,7 +11,7 @@ use Rattle.c11_meaning.specs.Statements.{Run, Armed}
 use Rattle.c11_flat.specs.declared.instr.Instr.{Instr}
 use Rattle.c11_flat.specs.Code.{Laying, optional_run, optional_piece, optional_alone, started, locals_strip, handles_strip}
 use Rattle.c11_flat.specs.Code as code
-use Rattle.c11_lower.specs.Lowered.{laid, armed, strip_of, optional_strip, arms_size, optional_size, alone_size, loop_size, passed, passed_optional}
+use Rattle.c11_lower.specs.Lowered.{laid, armed, strip_of, optional_strip, arms_size, optional_size, alone_size, loop_size, passed, passed_arms, passed_optional}
 use Rattle.c11_lower.proofs.Walks.{Grows, taken_back}
 use Rattle.c11_lower.proofs.Stmts.{arm_is, if_none_is, if_some_is, for_none_is, for_some_is, handles_are}
 
@@ -43,13 +43,13 @@ size_at scope r = (r.run scope).size
 abbrev first_size : Armed Laying → List (Armed Laying) → Option (Run Laying) → Scope → ℕ
 first_size a rest otherwise scope = (code.first_of (a ∷ rest) otherwise scope).size
 
-pub size_arms : (arms : List Arm) (otherwise : Option (Run Laying)) (scope : Scope) → (code.first_of (map armed arms) otherwise scope).size ≡ arms_size arms scope + (optional_run otherwise scope).size
+pub size_arms : (arms : List Arm) (otherwise : Option (Run Laying)) (scope : Scope) → (code.first_of (map armed arms) otherwise scope).size ≡ arms_size arms scope + (optional_run otherwise (passed_arms arms scope)).size
 size_arms [] otherwise scope = omega arith
 size_arms (x ∷ xs) otherwise scope = ap (λ (a : Armed Laying). first_size a (map armed xs) otherwise scope) (arm_is x)
-    ∙ omega (arith, size_arms xs otherwise scope)
+    ∙ omega (arith, size_arms xs otherwise (passed x.body scope))
 
 pub size_if : (x : Stmt) (spot : Spot) (arms : List Arm) (otherwise : Option Stmt) (scope : Scope) → x ≡ s.If spot arms otherwise
-    → (strip_of x scope).size ≡ arms_size arms scope + (optional_strip otherwise scope).size
+    → (strip_of x scope).size ≡ arms_size arms scope + (optional_strip otherwise (passed_arms arms scope)).size
 size_if x spot arms None scope is = ap (size_at scope) (if_none_is x spot arms is) ∙ size_arms arms None scope
 size_if x spot arms (Some another) scope is = ap (size_at scope) (if_some_is x spot arms another is) ∙ size_arms arms (Some (laid another)) scope
 

@@ -19,7 +19,7 @@ use Rattle.c11_check.specs.Faults.{outside, misreturned}
 use Rattle.c11_check.specs.Expressions.{part_of, alone, used}
 use Rattle.c11_meaning.specs.Statements.{Run, Armed, arm_step, block_step, stmt_step, walk_of_run, walk_of_armed, nothing_around}
 use Rattle.c11_flat.specs.Code.{Laying, in_order, strip_step, strip_of_block}
-use Rattle.c11_lower.specs.Lowered.{laid, armed, passed, passed_all, passed_optional}
+use Rattle.c11_lower.specs.Lowered.{laid, armed, passed, passed_all, passed_arms, passed_optional}
 
 -- the names before, and perhaps more
 abbrev pub Grows : List Named → List Named → Type 0
@@ -247,3 +247,7 @@ behind_all (x ∷ xs) s = behind_all xs (passed x s)
 pub optional_kept : (x : Option Stmt) (s : Scope) → Grows s.names (passed_optional x s).names
 optional_kept None s = grows_not s.names
 optional_kept (Some x) s = passed_kept x s
+
+pub arms_kept : (xs : List Arm) (s : Scope) → Grows s.names (passed_arms xs s).names
+arms_kept [] s = grows_not s.names
+arms_kept (x ∷ xs) s = grows_on s.names (passed x.body s).names (passed_arms xs (passed x.body s)).names (passed_kept x.body s) (arms_kept xs (passed x.body s))

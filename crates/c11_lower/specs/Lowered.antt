@@ -69,7 +69,7 @@ optional_strip (Some stmt) scope = strip_of stmt scope
 -- the arms of an `if`, without what the last `else` has
 abbrev pub arms_size : List Arm → Scope → ℕ
 arms_size [] scope = 0
-arms_size (arm ∷ arms) scope = (piece_of arm.test scope).size + (1 + ((strip_of arm.body scope).size + (1 + arms_size arms scope)))
+arms_size (arm ∷ arms) scope = (piece_of arm.test scope).size + (1 + ((strip_of arm.body scope).size + (1 + arms_size arms (passed arm.body scope))))
 
 -- a value that may be left out: one instruction stands in its place, or none
 abbrev pub optional_size : Option Expr → Scope → ℕ

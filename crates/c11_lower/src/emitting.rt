@@ -10,7 +10,7 @@ use crate::append::{
 };
 use crate::declaring::{emit_handles, emit_locals};
 use crate::measuring::{alone_size, optional_size, stmt_size};
-use crate::passing::{emit_behind, pass, pass_optional, size_behind};
+use crate::passing::{emit_behind, mark, pass, pass_optional, size_behind};
 use c11_ast::{Arm, Block, Boxed, Expr, Stmt};
 use c11_check::scopes::Scopes;
 use c11_flat::Instr;
@@ -39,8 +39,10 @@ pub(crate) fn emit_stmt<'a>(
             ..
         } => {
             let end = plus(code.len(), stmt_size(scopes, stmt)?)?;
+            let mark = mark(scopes);
             emit_arms(code, scopes, arms.as_slice(), end, breaks, continues)?;
             emit_other(code, scopes, otherwise, breaks, continues)?;
+            scopes.go_back(mark);
         }
         Stmt::While { spot, test, body } => emit_while(code, scopes, spot.line, body.get(), test)?,
         Stmt::Do { spot, body, test } => emit_do(code, scopes, spot.line, body.get(), test)?,
@@ -121,7 +123,7 @@ fn emit_other<'a>(
     }
 }
 
-// The arms of an `if` that ends at this place. What the last `else` has comes behind them.
+// The arms of an `if` that ends at this place. What the last `else` has comes behind them, in the scope that is left.
 #[cycle(emitting)]
 fn emit_arms<'a>(
     code: &mut Vec<Instr>,
@@ -131,8 +133,8 @@ fn emit_arms<'a>(
     breaks: usize,
     continues: usize,
 ) -> Result<(), NoMemory>
-    ensures code { OnOk result ((otherwise : Option SpecStmt) → spec.EndsAt end code.old.items arms.now otherwise scopes.old → spec.with_strip code.new.items (spec.optional_strip otherwise scopes.old) breaks continues ≡ spec.with_strip code.old.items (spec.arms_strip arms.now otherwise scopes.old) breaks continues) }
-    ensures same { OnOk result (scopes.new ≡ scopes.old) }
+    ensures code { OnOk result ((otherwise : Option SpecStmt) → spec.EndsAt end code.old.items arms.now otherwise scopes.old → spec.with_strip code.new.items (spec.optional_strip otherwise (spec.passed_arms arms.now scopes.old)) breaks continues ≡ spec.with_strip code.old.items (spec.arms_strip arms.now otherwise scopes.old) breaks continues) }
+    ensures passed { OnOk result (scopes.new ≡ spec.passed_arms arms.now scopes.old) }
 {
     for arm in arms {
         emit_expr(code, scopes, &arm.test)?;
@@ -141,6 +143,7 @@ fn emit_arms<'a>(
         put(code, Instr::JumpIfZero(next))?;
         emit_stmt(code, scopes, &arm.body, breaks, continues)?;
         put(code, Instr::Jump(end))?;
+        pass(scopes, &arm.body)?;
     }
     Ok(())
 }

@@ -92,8 +92,11 @@ pub(crate) fn stmt_size<'a>(scopes: &mut Scopes<'a>, stmt: &'a Stmt) -> Result<u
             otherwise,
             ..
         } => {
+            let mark = mark(scopes);
             let first = arms_size(scopes, arms.as_slice())?;
-            plus(first, size_of_optional(scopes, otherwise)?)?
+            let last = size_of_optional(scopes, otherwise)?;
+            scopes.go_back(mark);
+            plus(first, last)?
         }
         Stmt::While { test, body, .. } => {
             let tested = plus(expr_size(scopes, test)?, 2)?;
@@ -169,17 +172,18 @@ fn size_of_all<'a>(scopes: &mut Scopes<'a>, stmts: &'a [Stmt]) -> Result<usize, 
     Ok(size)
 }
 
-// The size of the arms of an `if`.
+// The size of the arms of an `if`. The scope is the one behind them.
 #[cycle(measuring)]
 fn arms_size<'a>(scopes: &mut Scopes<'a>, arms: &'a [Arm]) -> Result<usize, NoMemory>
     ensures size { IfOk result (λ size. size ≡ spec.arms_size arms.now scopes.old) }
-    ensures same { OnOk result (scopes.new ≡ scopes.old) }
+    ensures passed { OnOk result (scopes.new ≡ spec.passed_arms arms.now scopes.old) }
 {
     let mut size = 0;
     for arm in arms {
         let tested = plus(expr_size(scopes, &arm.test)?, 2)?;
         let done = stmt_size(scopes, &arm.body)?;
         size = plus(size, plus(tested, done)?)?;
+        pass(scopes, &arm.body)?;
     }
     Ok(size)
 }
