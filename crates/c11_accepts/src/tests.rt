@@ -1,52 +1,29 @@
-use c11_check::{CheckFault, Checked, check};
+use crate::{AcceptStop, accept};
 use c11_events::CellInfo;
-use c11_lexer::lex;
-use c11_parser::parse;
+use c11_report::RefusalWord;
 use std::alloc::{AllocError, Global};
 use std::process::Abort;
 use std::test::Fail;
 
-/// What becomes of a text.
-#[derive(Debug, Drop)]
-enum Outcome {
-    Accepted(Checked),
-    Refused(CheckFault),
-    /// It is no program, or too long a one.
-    Unread,
-}
-
-fn judged(alloc: Global, text: &[u8]) -> Outcome {
-    if text.len() > 65536 {
-        return Outcome::Unread;
-    }
-    let Ok(tokens) = lex(alloc, text) else {
-        return Outcome::Unread;
-    };
-    let Ok(program) = parse(alloc, text, tokens.as_slice()) else {
-        return Outcome::Unread;
-    };
-    if program.items().len() >= 4_294_967_296 {
-        return Outcome::Unread;
-    }
-    match check(alloc, program) {
-        Ok(checked) => Outcome::Accepted(checked),
-        Err(fault) => Outcome::Refused(fault),
-    }
-}
-
-/// The word of a refusal, and its place.
-fn refusal(fault: CheckFault) -> (&'static str, u32, u32) {
-    match fault {
-        CheckFault::Unknown(line, column) => ("unknown", line, column),
-        CheckFault::Twice(line, column) => ("twice", line, column),
-        CheckFault::Kind(line, column) => ("kind", line, column),
-        CheckFault::Arguments(line, column) => ("arguments", line, column),
-        CheckFault::Order(line, column) => ("order", line, column),
-        CheckFault::NoMain(line, column) => ("nomain", line, column),
-        CheckFault::Size(line, column) => ("size", line, column),
-        CheckFault::TooMany(line, column) => ("toomany", line, column),
-        CheckFault::Typing(line, column) => ("type", line, column),
-        CheckFault::NoMemory => ("memory", 0, 0),
+/// A word as a row has it.
+fn word_of(word: RefusalWord) -> &'static str {
+    match word {
+        RefusalWord::Byte => "byte",
+        RefusalWord::Literal => "literal",
+        RefusalWord::Comment => "comment",
+        RefusalWord::Directive => "directive",
+        RefusalWord::Item => "item",
+        RefusalWord::Unknown => "unknown",
+        RefusalWord::Twice => "twice",
+        RefusalWord::Kind => "kind",
+        RefusalWord::Arguments => "arguments",
+        RefusalWord::Order => "order",
+        RefusalWord::NoMain => "nomain",
+        RefusalWord::Size => "size",
+        RefusalWord::TooMany => "toomany",
+        RefusalWord::Typing => "type",
+        RefusalWord::Long => "long",
+        RefusalWord::Form => "form",
     }
 }
 
@@ -76,16 +53,13 @@ fn tell(rt: &impl Abort, alloc: Global, rows: &[(&str, &str)], end: &str) -> Res
     for (word, row) in rows {
         let (mut text, line, column) = unmarked(alloc, row)?;
         text.extend_from_slice(end.as_bytes())?;
-        match judged(alloc, text.as_slice()) {
-            Outcome::Accepted(_) => assert!(rt; *word == "accepted", "accepted: {row}"),
-            Outcome::Refused(fault) => {
-                let found = refusal(fault);
-                assert!(rt;
-                    found.0 == *word && found.1 == line && found.2 == column,
-                    "{found:?}: {row}"
-                );
-            }
-            Outcome::Unread => assert!(rt; false, "unread: {row}"),
+        match accept(alloc, text.as_slice()) {
+            Ok(_) => assert!(rt; *word == "accepted", "accepted: {row}"),
+            Err(AcceptStop::Refused(found)) => assert!(rt;
+                word_of(found.word) == *word && found.place == Some((line, column)),
+                "{found:?}: {row}"
+            ),
+            Err(AcceptStop::NoMemory) => assert!(rt; false, "no memory: {row}"),
         }
     }
     Ok(())
@@ -106,7 +80,7 @@ fn is_cell(cell: &CellInfo, name: &str, index: Option<u32>, initial: i128) -> bo
 fn what_is_declared_is_numbered(rt: HostRuntime) -> Result<(), Fail> {
     let text =
         "#define N 2\natomic_int a = -1, b[N] = {7};\nunsigned long c = -1; int d[3] = {1, -2};\nmtx_t m, k[2];\natomic_long e = thrd_error;\nint f(void *p) { return 0; }\nint main(void) { return 0; }\n";
-    let Outcome::Accepted(checked) = judged(rt.alloc(), text.as_bytes()) else {
+    let Ok(checked) = accept(rt.alloc(), text.as_bytes()) else {
         assert!(rt; false, "refused");
         return Ok(());
     };
@@ -575,4 +549,51 @@ fn there_is_a_main(rt: HostRuntime) -> Result<(), Fail> {
         ),
     ];
     tell(&rt, rt.alloc(), rows.as_slice(), "")
+}
+
+// What is no program, and what is none before that.
+#[test]
+fn texts_without_a_program_are_refused(rt: HostRuntime) -> Result<(), Fail> {
+    let rows: [(&str, &str); 12] = [
+        ("byte", "int x; @$"),
+        ("literal", "int x = @18446744073709551616u;\n$"),
+        ("literal", "int f(void) { return @\"a; }"),
+        ("comment", "int x;\n  @/* $"),
+        ("directive", "int x;\n@#undef x\n$"),
+        ("byte", "}} @$"),
+        ("item", "int x;\n@int main(void) {"),
+        ("item", "int x;\nint y;\n@x = 1;"),
+        ("item", "@int f(void) { return y }"),
+        ("item", "int x; int x; @int"),
+        ("item", "@int f(void) {\n#define N 1\n}"),
+        ("nomain", "@\n\n"),
+    ];
+    tell(&rt, rt.alloc(), rows.as_slice(), "")
+}
+
+// A text of so many bytes, the last one of which begins no token.
+fn long_text(alloc: Global, bytes: usize) -> Result<Vec<u8>, AllocError> {
+    let mut text = Vec::new(alloc);
+    for _ in 1..bytes {
+        text.push(b'\n')?;
+    }
+    text.push(b'$')?;
+    Ok(text)
+}
+
+// A text that is too long is refused for that alone.
+#[test]
+fn a_text_may_have_so_many_bytes(rt: HostRuntime) -> Result<(), Fail> {
+    let alloc = rt.alloc();
+    let kept = long_text(alloc, 65_536)?;
+    let Err(AcceptStop::Refused(found)) = accept(alloc, kept.as_slice()) else {
+        return Err(Fail::new("it is not refused"));
+    };
+    assert!(rt; found.word == RefusalWord::Byte && found.place == Some((65_536, 1)));
+    let long = long_text(alloc, 65_537)?;
+    let Err(AcceptStop::Refused(found)) = accept(alloc, long.as_slice()) else {
+        return Err(Fail::new("it is not refused"));
+    };
+    assert!(rt; found.word == RefusalWord::Long && found.place.is_none());
+    Ok(())
 }
