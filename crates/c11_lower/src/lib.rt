@@ -5,8 +5,7 @@
 //! place. Sizes are taken again at each level of nesting, of which a checked program has few.
 //!
 //! What is measured or written leaves the scopes as before; who goes on behind a statement goes past it, so that what it declares is
-//! declared. Each arm of an `if` is in the scope behind the
-//! arms before it.
+//! declared. Each arm of an `if` is in the scope behind the arms before it.
 #![tactic(auto)]
 
 mod append;
