@@ -11,6 +11,8 @@ mod lengths;
 mod library;
 mod objects;
 mod sizes;
+#[cfg(test)]
+mod tests;
 mod types;
 
 pub use emission::emit_expr;
