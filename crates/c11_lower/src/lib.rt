@@ -14,6 +14,8 @@ mod emitting;
 mod functions;
 mod measuring;
 mod passing;
+#[cfg(test)]
+mod tests;
 mod whole;
 
 pub use whole::lower;
