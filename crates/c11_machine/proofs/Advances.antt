@@ -1,5 +1,5 @@
 -- What a thread does that goes on.
-use Rattle.std.proofs.Common.{◌≡◌, ℕ, zero, suc, ◌+◌, List, [], Option, Some, None, Bool, true, false, Result, Ok, Err, IfOk, refl, ap, sym, ◌∙◌, subst, arith}
+use Rattle.std.proofs.Common.{◌≡◌, ℕ, ◌+◌, List, Option, Some, None, Bool, true, false, Result, Ok, Err, IfOk, refl, ap, sym, ◌∙◌, subst, arith}
 use Rattle.c11_num.specs.declared.memory.NoMemory.{NoMemory}
 use Rattle.c11_ast.specs.declared.item.Program.{Program}
 use Rattle.c11_events.specs.declared.op.Ask.{Ask}
@@ -29,10 +29,10 @@ comes_run code true c c' (Ok ask) e r says = reaches_on code (To c) (To c') (Say
 comes_run code true c c' (Err short) e r says = tt
 comes_run code false c c' r e reach says = absurd (cc e)
 
-pub again_run : (code : Whole) (b : Bool) (c c' : Config) → b ≡ true → Reaches code (To c) (To c') → (ask : Ask) × Reaches code (goes_from b code c) (Says ask)
-    → (ask : Ask) × Reaches code (goes_from b code c') (Says ask)
-again_run code true c c' e r can = (can.0, asks_on code (To c) (To c') can.0 r can.1)
-again_run code false c c' e r can = absurd (cc e)
+pub again_run : (code : Whole) (b : Bool) (c c' : Config) (ask : Ask) → b ≡ true → Reaches code (To c) (To c') → Reaches code (goes_from b code c) (Says ask)
+    → Reaches code (goes_from b code c') (Says ask)
+again_run code true c c' ask e r comes = asks_on code (To c) (To c') ask r comes
+again_run code false c c' ask e r comes = absurd (cc e)
 
 -- ---- one that begins
 
@@ -53,10 +53,10 @@ comes_begun code true c one two r e begun reach says = absurd (cc e)
 comes_begun code false c one two (Ok ask) e begun reach says = reaches_on code (start code c.state.replies) (To one) (Says ask) (0, begun) (reaches_on code (To one) (To two) (Says ask) reach (1, says))
 comes_begun code false c one two (Err short) e begun reach says = tt
 
-pub again_begun : (code : Whole) (b : Bool) (c one two : Config) → b ≡ false → start code c.state.replies ≡ To one → Reaches code (To one) (To two)
-    → (ask : Ask) × Reaches code (goes_from b code c) (Says ask) → (ask : Ask) × Reaches code (To two) (Says ask)
-again_begun code true c one two e begun reach can = absurd (cc e)
-again_begun code false c one two e begun reach can = (can.0, asks_on code (start code c.state.replies) (To two) can.0 (reaches_on code (start code c.state.replies) (To one) (To two) (0, begun) reach) can.1)
+pub again_begun : (code : Whole) (b : Bool) (c one two : Config) (ask : Ask) → b ≡ false → start code c.state.replies ≡ To one → Reaches code (To one) (To two)
+    → Reaches code (goes_from b code c) (Says ask) → Reaches code (To two) (Says ask)
+again_begun code true c one two ask e begun reach comes = absurd (cc e)
+again_begun code false c one two ask e begun reach comes = asks_on code (start code c.state.replies) (To two) ask (reaches_on code (start code c.state.replies) (To one) (To two) (0, begun) reach) comes
 
 pub does_begin : (code : Whole) (b : Bool) (c old new : Config) (began : Bool) → b ≡ false → began ≡ false → Begins (start code c.state.replies) old new (Ok began)
     → (ask : Ask) × Reaches code (goes_from b code c) (Says ask) → ⊥

@@ -1,6 +1,6 @@
 -- What operations come to, where they have a reply and where they have none.
 use Rattle.std.proofs.Common.{◌≡◌, ℕ, zero, suc, ◌-◌, ◌<◌, Bool, true, false, List, [], ◌∷◌, drop, Option, Some, None, refl, ap, sym, ◌∙◌, arith}
-use Rattle.std.specs.Prelude.{ℤ, Result, Ok, Err, if◌then◌else◌}
+use Rattle.std.specs.Prelude.{ℤ, Ok, Err, if◌then◌else◌}
 use Rattle.c11_num.specs.Ranges.{TypedNumber}
 use Rattle.c11_num.specs.declared.fault.NumFault.{NumFault}
 use Rattle.c11_events.specs.declared.op.Ask.{Ask}
@@ -15,7 +15,7 @@ use Rattle.c11_meaning.specs.Objects.{new_or_old, with_local_at}
 use Rattle.c11_flat.specs.declared.instr.Place.{Place}
 use Rattle.c11_flat.specs.declared.slot.Slot.{Slot}
 use Rattle.c11_flat.specs.declared.slot.Slot.TheVariants as slot
-use Rattle.c11_flat.specs.Flat.{Config, Next, To, Says, Halts, from, giving, on_slot, on_place, on_answer, counting}
+use Rattle.c11_flat.specs.Flat.{Config, Next, Says, Halts, from, giving, on_slot, on_place, on_answer, counting}
 use Rattle.c11_machine.specs.Views.{listed}
 use Rattle.c11_machine.specs.Answers.{answer_of, answered}
 use Rattle.c11_machine.specs.Effects.{meant, stopped, gives, replied_by}

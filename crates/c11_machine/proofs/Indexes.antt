@@ -5,7 +5,7 @@ use Rattle.std.specs.Int.Signed.{le_z, lt_z}
 use Rattle.std.proofs.lemmas.Bool.Decides.{nat_tests}
 use lib.IntN.{nat_abs}
 use Rattle.c11_events.specs.declared.op.StopKind.TheVariants.{Bounds}
-use Rattle.c11_meaning.specs.Outcome.{State, Outcome, Gives, stop}
+use Rattle.c11_meaning.specs.Outcome.{State, Gives, stop}
 use Rattle.c11_meaning.specs.Objects.{element}
 
 pub inside : (line base size : ℕ) (z : ℤ) (st : State) → le_z (pos 0) z ≡ true → lt_z z (pos size) ≡ true → element line base size z st ≡ Gives (base + nat_abs z) st

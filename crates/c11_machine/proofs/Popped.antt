@@ -1,5 +1,5 @@
 -- Values that are taken off a stack at once, and places that become 0.
-use Rattle.std.proofs.Common.{◌≡◌, ℕ, zero, suc, ◌+◌, ◌-◌, ◌<◌, Bool, true, false, List, [], ◌∷◌, ◌++◌, length, reverse, take, drop, Option, Some, None, refl, ap, sym, ◌∙◌, append_assoc, arith}
+use Rattle.std.proofs.Common.{◌≡◌, ℕ, zero, suc, ◌+◌, ◌-◌, ◌<◌, Bool, true, false, List, [], ◌∷◌, ◌++◌, length, reverse, take, drop, Some, None, refl, ap, sym, ◌∙◌, append_assoc, arith}
 use Rattle.std.specs.Prelude.{ℤ, pos, slice_set}
 use Rattle.std.proofs.lemmas.List.{reverse-append, append-nil, length-reverse}
 use Rattle.c11_num.specs.Ranges.{TypedNumber}
@@ -37,9 +37,12 @@ reverse_parts : (items : List Slot) (b : ℕ) → reverse items ≡ reverse (dro
 reverse_parts items b = ap (λ (ys : List Slot). reverse ys) (parts items b) ∙ reverse-append (take b items) (drop b items)
 
 pub all_popped : (items : List Slot) (b count : ℕ) → b + count ≡ length items → are_values (drop b items) ≡ true → ValuesFrom (Some b) count items
-all_popped items b count e all = (e, λ go. ap (λ (s : List Slot). popping count [] s go) (reverse_parts items b)
-    ∙ (popped (drop b items) count 0 [] (reverse (take b items)) go (let len = length_dropped items b count e in omega (arith, len)) all
-    ∙ (ap (λ (vs : List TypedNumber). go vs (reverse (take b items))) (append-nil (values_of (drop b items))) ∙ ap (λ (s : List Slot). go (values_of (drop b items)) s) (sym (drop_reverse items b count e)))))
+all_popped items b count e all = (
+  e,
+  λ go. ap (λ (s : List Slot). popping count [] s go) (reverse_parts items b)
+      ∙ (popped (drop b items) count 0 [] (reverse (take b items)) go (let len = length_dropped items b count e in omega (arith, len)) all
+      ∙ (ap (λ (vs : List TypedNumber). go vs (reverse (take b items))) (append-nil (values_of (drop b items))) ∙ ap (λ (s : List Slot). go (values_of (drop b items)) s) (sym (drop_reverse items b count e)))),
+)
 
 pub not_popped : (items : List Slot) (b count : ℕ) → b + count ≡ length items → are_values (drop b items) ≡ false → ValuesFrom None count items
 not_popped items b count e some go = ap (λ (s : List Slot). popping count [] s go) (reverse_parts items b)

@@ -1,5 +1,5 @@
 -- Numbers of single types.
-use Rattle.std.proofs.Common.{◌≡◌, ℕ, ◌-◌, ◌^◌, ◌%◌, ◌≤◌, Fits, w32, refl, ap, sym, ◌∙◌, subst, arith}
+use Rattle.std.proofs.Common.{◌≡◌, ◌-◌, ◌^◌, ◌%◌, ◌≤◌, Fits, w32, refl, ap, sym, ◌∙◌, subst, arith}
 use Rattle.std.specs.Prelude.{ℤ, pos, negsuc, ◌-ℤ◌, unsigned_abs}
 use lib.Dec.{T}
 use lib.Signed.{non_neg}
@@ -36,8 +36,8 @@ unfolding wrapped
 flip_ulong (pos a) h =
     let small : a ≤ 2 ^ 64 - 1 = omega (arith, ints, h.1) in
     let one : int_rem_euclid (pos (2 ^ 64 - 1) -ℤ pos a) (pos (2 ^ 64)) ≡ pos ((2 ^ 64 - 1 - a) % 2 ^ 64) =
-        int_rem_euclid_is (pos (2 ^ 64 - 1) -ℤ pos a) (pos (2 ^ 64)) (2 ^ 64) 0 (2 ^ 64 - 1 - a) (omega arith) refl (omega (arith, ints)) in
+    int_rem_euclid_is (pos (2 ^ 64 - 1) -ℤ pos a) (pos (2 ^ 64)) (2 ^ 64) 0 (2 ^ 64 - 1 - a) (omega arith) refl (omega (arith, ints)) in
     let other : int_rem_euclid (negsuc 0 -ℤ pos a) (pos (2 ^ 64)) ≡ pos ((2 ^ 64 - 1 - a) % 2 ^ 64) =
-        int_rem_euclid_is (negsuc 0 -ℤ pos a) (pos (2 ^ 64)) (2 ^ 64) 1 (2 ^ 64 - 1 - a) (omega arith) refl (omega (arith, ints)) in
+    int_rem_euclid_is (negsuc 0 -ℤ pos a) (pos (2 ^ 64)) (2 ^ 64) 1 (2 ^ 64 - 1 - a) (omega arith) refl (omega (arith, ints)) in
     ap (λ (r : ℤ). record { ctype = ULong; number = pos (unsigned_abs r) }) (one ∙ sym other)
 flip_ulong (negsuc a) h = absurd (omega (arith, ints, h.0))

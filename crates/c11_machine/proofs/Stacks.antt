@@ -1,15 +1,13 @@
 -- Stacks, whose top is the last item.
-use Rattle.std.proofs.Common.{◌≡◌, ℕ, zero, suc, ◌+◌, ◌-◌, ◌<◌, ◌≤◌, List, [], ◌∷◌, ◌++◌, length, reverse, take, drop, get_or, Option, Some, None, refl, ap, sym, ◌∙◌, subst, arith}
-use Rattle.std.specs.Prelude.{slice_get, ℤ, pos}
-use Rattle.std.proofs.lemmas.List.{reverse-append, length-reverse, length-append}
-use Rattle.std.proofs.Math.Seq.{drop-cons}
+use Rattle.std.proofs.Common.{◌≡◌, ℕ, zero, suc, ◌+◌, ◌-◌, ◌<◌, ◌≤◌, List, [], ◌∷◌, ◌++◌, length, reverse, take, drop, get_or, Some, None, refl, ap, sym, ◌∙◌, arith}
+use Rattle.std.proofs.lemmas.List.{reverse-append, length-reverse}
 use Rattle.c11_num.specs.Ranges.{TypedNumber}
 use Rattle.c11_flat.specs.declared.instr.Place.{Place}
 use Rattle.c11_flat.specs.declared.instr.Place.TheVariants.{At, OnStack}
 use Rattle.c11_flat.specs.declared.slot.Slot.{Slot}
 use Rattle.c11_flat.specs.declared.slot.Slot.TheVariants as slot
-use Rattle.c11_flat.specs.Flat.{Next, Halts, on_value, on_place, at_place}
-use Rattle.c11_machine.specs.Looks.{SlotIn, ValueIn, PlaceIn}
+use Rattle.c11_flat.specs.Flat.{Next, on_value, on_place, at_place}
+use Rattle.c11_machine.specs.Looks.{ValueIn}
 
 pub drop_front : {A : Type 0} (a b : List A) (k : ℕ) → k ≡ length a → drop k (a ++ b) ≡ b
 drop_front [] b zero e = refl

@@ -3,7 +3,6 @@ use Rattle.std.specs.Prelude.{◌≡◌, ℕ, ◌+◌, ◌-◌, List, [], ◌∷
 use Rattle.c11_num.specs.Ranges.{TypedNumber}
 use Rattle.c11_num.specs.Wrapping.{wrapped}
 use Rattle.c11_num.specs.declared.value.CType.{CType}
-use Rattle.c11_events.specs.declared.op.Ask.{Ask}
 use Rattle.c11_events.specs.declared.op.Op.TheVariants.{Stop}
 use Rattle.c11_events.specs.declared.op.StopKind.{StopKind}
 use Rattle.c11_events.specs.declared.reply.Reply as spec

@@ -42,6 +42,10 @@ CanAsk code t = (ask : Ask) × Comes code t ask
 abbrev pub OneAsk : Type 0
 OneAsk = (code : Whole) (t : Standing) (a b : Ask) → Comes code t a → Comes code t b → a ≡ b
 
+-- where the code asks something after these replies, a thread that stands for them comes to it
+abbrev pub AsksWhereCodeAsks : Type 0
+AsksWhereCodeAsks = (code : Whole) (replies : List Reply) (ask : Ask) (t : Standing) → Reaches code (start code replies) (Says ask) → Stands code t replies → Comes code t ask
+
 -- where the trees ask something after these replies, a thread that stands for them may go on
 abbrev pub AsksWhereWanted : Type 0
 AsksWhereWanted = (program : Program) (replies : List Reply) (ask : Ask) (t : Standing) → asks_of program replies ≡ Some ask → Stands (whole_of program) t replies → CanAsk (whole_of program) t

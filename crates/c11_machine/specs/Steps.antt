@@ -1,5 +1,5 @@
 -- What became of a machine by one instruction.
-use Rattle.std.specs.Prelude.{◌≡◌, ◌-◌, ℕ, zero, suc, List, [], ◌∷◌, ◌++◌, Option, Some, None, Bool, true, false, Result, Ok, Err, ℤ, pos, length, replicate, slice_set}
+use Rattle.std.specs.Prelude.{◌≡◌, ◌-◌, ℕ, zero, suc, List, ◌++◌, Bool, true, false, Result, Ok, Err, ℤ, pos, length, replicate, slice_set}
 use Rattle.c11_num.specs.Ranges.{TypedNumber}
 use Rattle.c11_num.specs.declared.memory.NoMemory.{NoMemory}
 use Rattle.c11_num.specs.declared.value.CType.{CType}

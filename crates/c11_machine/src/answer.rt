@@ -12,7 +12,7 @@ use c11_events::Reply;
 use c11_num::{CType, CValue, RmwKind, wrapping};
 
 /// Which replies an operation goes on with, and how.
-#[derive(Clone, Copy, Debug)]
+#[derive(Clone, Copy)]
 pub(crate) enum Wanted {
     /// The value that is told.
     Told,
@@ -37,7 +37,7 @@ pub(crate) enum Wanted {
 }
 
 /// The value of an operation, and what it writes.
-#[derive(Clone, Copy, Debug)]
+#[derive(Clone, Copy)]
 pub(crate) struct Answer {
     pub(crate) value: CValue,
     pub(crate) writes: Option<Written>,
@@ -198,9 +198,7 @@ fn created(place: u32, reply: Reply) -> Option<Answer>
     ensures { (st : State) → created place reply st ≡ spec.answered result st }
 {
     match reply {
-        Reply::Created(thread) => {
-            zero_and(place, CValue::new(CType::Long, i128::from(thread)))
-        }
+        Reply::Created(thread) => { zero_and(place, CValue::new(CType::Long, i128::from(thread))) }
         Reply::Value(_)
         | Reply::Done
         | Reply::Exchanged { .. }

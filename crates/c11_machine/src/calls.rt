@@ -25,11 +25,16 @@ use std::mem;
 /// How many callers a call may have.
 const FRAME_LIMIT: usize = 63;
 
-// The values, each in the type of its parameter.
-fn given(alloc: Global, params: &[CType], values: &[Slot]) -> Result<Vec<CValue>, NoMemory>
+// The values, each in the type of its parameter, with room for so many.
+fn given(
+    alloc: Global,
+    params: &[CType],
+    values: &[Slot],
+    room: usize,
+) -> Result<Vec<CValue>, NoMemory>
     ensures { IfOk result (λ given. numbers_of given.items ≡ numbers_in params.now (values_of values.now)) }
 {
-    let mut given = Vec::new(alloc);
+    let mut given = Vec::with_capacity(alloc, room)?;
     for i in 0..params.len().min(values.len()) {
         given.push(convert(value_in(values[i]), params[i]))?;
     }
@@ -40,7 +45,12 @@ fn given(alloc: Global, params: &[CType], values: &[Slot]) -> Result<Vec<CValue>
 fn first_places(alloc: Global, start: &Start, values: &[Slot]) -> Result<Vec<CValue>, NoMemory>
     ensures { IfOk result (λ locals. numbers_of locals.items ≡ places_for start.now.params start.now.places (values_of values.now)) }
 {
-    let mut locals = given(alloc, start.params.as_slice(), values)?;
+    let mut locals = given(
+        alloc,
+        start.params.as_slice(),
+        values,
+        start.places as usize,
+    )?;
     let others = (start.places as usize).saturating_sub(start.params.len());
     add_zeros(&mut locals, others)?;
     Ok(locals)
@@ -69,7 +79,13 @@ fn answer_as(answers: Option<CType>, value: CValue) -> CValue
 
 impl Machine {
     // Calls a function with the last so many values.
-    pub(crate) fn call(&mut self, code: &Code, line: u32, function: u32, count: usize) -> Result<Step, NoMemory>
+    pub(crate) fn call(
+        &mut self,
+        code: &Code,
+        line: u32,
+        function: u32,
+        count: usize,
+    ) -> Result<Step, NoMemory>
         requires { self.old.place + 1 < 2 ^ 64 }
         ensures { Took (act code.now (Instr.Call line function count) (config_of self.old)) (config_of self.old) (config_of self.new) result }
     {

@@ -8,14 +8,14 @@ use c11_flat::Slot;
 use c11_num::CValue;
 
 /// A value whose number a place gets.
-#[derive(Clone, Copy, Debug)]
+#[derive(Clone, Copy)]
 pub(crate) struct Written {
     pub(crate) place: u32,
     pub(crate) value: CValue,
 }
 
 /// What becomes of the turns that are left, and of the reply.
-#[derive(Clone, Copy, Debug)]
+#[derive(Clone, Copy)]
 pub(crate) enum Budget {
     /// They stay.
     Kept,
@@ -26,7 +26,7 @@ pub(crate) enum Budget {
 }
 
 /// A step inside one function.
-#[derive(Clone, Copy, Debug)]
+#[derive(Clone, Copy)]
 pub(crate) struct Change {
     /// How many slots it takes off the stack.
     pub(crate) takes: usize,
@@ -40,7 +40,7 @@ pub(crate) struct Change {
 }
 
 /// What an instruction does.
-#[derive(Debug, Drop)]
+#[derive(Drop)]
 pub(crate) enum Effect {
     Moves(Change),
     /// It wants a reply, and there is none.

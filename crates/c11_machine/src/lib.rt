@@ -19,6 +19,8 @@ mod print;
 mod run;
 mod slots;
 mod step;
+#[cfg(test)]
+mod tests;
 mod thread;
 
 pub use c11_flat::Code;

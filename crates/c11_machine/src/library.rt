@@ -17,7 +17,7 @@ use c11_flat::{Acts, Instr, Place};
 use c11_num::{CType, RmwKind, convert};
 
 /// Of a compare-exchange, all but where its objects are.
-#[derive(Clone, Copy, Debug)]
+#[derive(Clone, Copy)]
 pub(crate) struct Exchange {
     pub(crate) weak: bool,
     pub(crate) success: Order,
@@ -58,7 +58,15 @@ impl Machine {
         self.operates(line, op, Wanted::Done(stored), found.below)
     }
 
-    pub(crate) fn modify(&self, line: u32, order: Order, kind: RmwKind, ctype: CType, cell: Place, old: bool) -> Effect
+    pub(crate) fn modify(
+        &self,
+        line: u32,
+        order: Order,
+        kind: RmwKind,
+        ctype: CType,
+        cell: Place,
+        old: bool,
+    ) -> Effect
         ensures { ActsAs (Instr.Modify line order kind ctype cell old) result (config_of self.now) }
     {
         let Some(value) = self.value_at(0) else {
@@ -74,7 +82,12 @@ impl Machine {
             kind,
             operand,
         };
-        self.operates(line, op, Wanted::Updated { old, kind, operand }, found.below)
+        self.operates(
+            line,
+            op,
+            Wanted::Updated { old, kind, operand },
+            found.below,
+        )
     }
 
     // The local with the expected value is read last.
@@ -121,10 +134,20 @@ impl Machine {
         ensures { let c = config_of self.now in from (mutex_act acts line mutex c.state) (giving c (drop takes c.stack)) ≡ meant result c }
     {
         match acts {
-            Acts::Init => self.operates(line, Op::MutexInit { mutex }, Wanted::Done(nothing()), takes),
+            Acts::Init => self.operates(
+                line,
+                Op::MutexInit { mutex },
+                Wanted::Done(nothing()),
+                takes,
+            ),
             Acts::Lock => self.operates(line, Op::Lock { mutex }, Wanted::Locked, takes),
             Acts::TryLock => self.operates(line, Op::TryLock { mutex }, Wanted::Tried, takes),
-            Acts::Unlock => self.operates(line, Op::Unlock { mutex }, Wanted::Done(nothing()), takes),
+            Acts::Unlock => self.operates(
+                line,
+                Op::Unlock { mutex },
+                Wanted::Done(nothing()),
+                takes,
+            ),
         }
     }
 

@@ -19,7 +19,7 @@ use c11_flat::{Instr, Place, Slot, Span, Storage};
 use c11_num::{BinaryOp, CType, CValue, binary, convert};
 
 /// An object that is not atomic.
-#[derive(Clone, Copy, Debug)]
+#[derive(Clone, Copy)]
 struct Object {
     storage: Storage,
     ctype: CType,
@@ -82,7 +82,15 @@ impl Machine {
     }
 
     // Writes a value to an object. What takes the place of so many slots is the value in the type of the object, or the old one.
-    fn writes(&self, line: u32, object: Object, value: CValue, new: bool, old: CValue, takes: usize) -> Effect
+    fn writes(
+        &self,
+        line: u32,
+        object: Object,
+        value: CValue,
+        new: bool,
+        old: CValue,
+        takes: usize,
+    ) -> Effect
         ensures { let c = config_of self.now in
             from (write_at object.storage object.ctype line object.place value c.state) (λ z st. giving c (drop takes c.stack) (new_or_old new z old) st) ≡ meant result c }
     {
@@ -137,7 +145,14 @@ impl Machine {
         self.computes(line, binary(step_op(up), value, one()), 0)
     }
 
-    pub(crate) fn stepped(&self, line: u32, storage: Storage, ctype: CType, place: Place, before: bool) -> Effect
+    pub(crate) fn stepped(
+        &self,
+        line: u32,
+        storage: Storage,
+        ctype: CType,
+        place: Place,
+        before: bool,
+    ) -> Effect
         ensures { ActsAs (Instr.Stepped line storage ctype place before) result (config_of self.now) }
     {
         let Some(value) = self.value_at(0) else {
@@ -172,7 +187,11 @@ impl Machine {
     {
         match op {
             Prefix::Minus => {
-                self.computes(line, binary(BinaryOp::Sub, zero_in(value.ctype()), value), 1)
+                self.computes(
+                    line,
+                    binary(BinaryOp::Sub, zero_in(value.ctype()), value),
+                    1,
+                )
             }
             Prefix::Plus => Effect::gives(1, value),
             Prefix::Not => Effect::gives(1, truth(is_zero(value))),

@@ -10,7 +10,7 @@ use c11_flat::{Place, Slot};
 use c11_num::{CType, CValue, convert};
 
 /// Where an object is, and how many slots lie above what remains of the stack.
-#[derive(Clone, Copy, Debug)]
+#[derive(Clone, Copy)]
 pub(crate) struct Found {
     pub(crate) place: u32,
     pub(crate) below: usize,

@@ -41,7 +41,12 @@ impl Machine {
     }
 
     // A computation, whose value takes the place of so many slots.
-    pub(crate) fn computes(&self, line: u32, value: Result<CValue, NumFault>, takes: usize) -> Effect
+    pub(crate) fn computes(
+        &self,
+        line: u32,
+        value: Result<CValue, NumFault>,
+        takes: usize,
+    ) -> Effect
         ensures { let c = config_of self.now in from (outcome.computed line value c.state) (giving c (drop takes c.stack)) ≡ meant result c }
     {
         match value {

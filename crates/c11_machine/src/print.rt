@@ -14,7 +14,7 @@ use c11_num::{CType, CValue, NoMemory, convert};
 use std::alloc::Global;
 
 /// What a byte of the text stands for.
-#[derive(Clone, Copy, Debug)]
+#[derive(Clone, Copy)]
 enum Part {
     /// Itself.
     Byte(u8),
@@ -94,7 +94,13 @@ fn write_number(alloc: Global, bytes: &mut Vec<u8>, value: CValue) -> Result<(),
 }
 
 // Writes what the byte stands for, and says from where on the values are left.
-fn write_part(alloc: Global, bytes: &mut Vec<u8>, part: Part, slots: &[Slot], used: usize) -> Result<usize, NoMemory>
+fn write_part(
+    alloc: Global,
+    bytes: &mut Vec<u8>,
+    part: Part,
+    slots: &[Slot],
+    used: usize,
+) -> Result<usize, NoMemory>
     requires { used ≤ length slots.now }
     ensures bytes { OnOk result (bytes.new.items ≡ bytes.old.items ++ spec.shown part (values_of (drop used slots.now))) }
     ensures rest { IfOk result (λ used'. values_of (drop used' slots.now) ≡ spec.left_by part (values_of (drop used slots.now))) }

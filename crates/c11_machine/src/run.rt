@@ -161,7 +161,7 @@ impl Machine {
     }
 
     // Does one instruction.
-    fn step(&mut self, code: &Code) -> Result<Step, NoMemory>
+    pub(crate) fn step(&mut self, code: &Code) -> Result<Step, NoMemory>
         ensures { Took (next code.now (To (config_of self.old))) (config_of self.old) (config_of self.new) result }
     {
         let Some(instr) = instr_at(code, self.place) else {

@@ -11,7 +11,7 @@ use c11_events::Ask;
 use c11_num::NoMemory;
 
 /// What became of it.
-#[derive(Debug, Drop)]
+#[derive(Drop)]
 pub(crate) enum Step {
     /// It goes on.
     On,

@@ -1,5 +1,6 @@
 ghost use Rattle.std.specs.Prelude.{◌≡◌, ◌++◌, ◌∷◌, [], List, IfOk, OnOk, Some};
 ghost use Rattle.c11_ast.specs.declared.item.Program.{Program};
+ghost use Rattle.c11_events.specs.declared.op.Ask.{Ask as SpecAsk};
 ghost use Rattle.c11_events.specs.declared.reply.Reply.{Reply as SpecReply};
 ghost use Rattle.c11_flat.specs.Code.{Whole, whole_of};
 ghost use Rattle.c11_meaning.specs.Asks.{asks_of};
@@ -69,7 +70,7 @@ impl Thread {
         ensures keeps { (replies : List SpecReply) → Stands code.now self.old replies → Stands code.now self.new replies }
         ensures asks { IfOk result (λ ask. (program : Program) (replies : List SpecReply) → code.now ≡ whole_of program → Stands code.now self.old replies → asks_of program replies ≡ Some ask) }
         ensures comes { IfOk result (λ ask. Comes code.now self.old ask) }
-        ensures again { CanAsk code.now self.new }
+        ensures again { (ask : SpecAsk) → Comes code.now self.old ask → Comes code.now self.new ask }
         ensures taken { OnOk result (self.new.config.state.replies ≡ []) }
         ensures number { self.new.number ≡ self.old.number }
     {

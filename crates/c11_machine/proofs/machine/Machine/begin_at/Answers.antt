@@ -2,7 +2,6 @@ use Rattle.std.proofs.Common.{None, Option, [], ap, arith, refl, ◌∙◌, ◌�
 use Rattle.std.proofs.lemmas.Int.{ints, to_z-of_z}
 use Rattle.c11_flat.specs.Code.{Start}
 use Rattle.c11_flat.specs.Flat.{first}
-use Rattle.c11_machine.proofs.Effects.{replies}
 use Rattle.c11_machine.proofs.Takes.{begun_is, starts_so, typed_is}
 use Rattle.c11_machine.specs.Steps.{places_for}
 use Rattle.c11_num.specs.Ranges.{TypedNumber}

@@ -25,7 +25,7 @@ returns c code =
     let m = (config_of c.args.self.now) in
     let values = values_of (drop c.in-Some.bottom c.args.self.now.stack.items) in
     let bytes : c.new.result ≡ printed Plain c.args.text.now values = c.new.ensures ∙ (c.in_ok-bytes.ensures ∙ (ap (λ (t : List ℕ). printed Plain t (values_of c.slots_from.result.now)) c.as_slice.ensures
-        ∙ ap (λ (s : List Slot). printed Plain c.args.text.now (values_of s)) c.slots_from.ensures)) in
+    ∙ ap (λ (s : List Slot). printed Plain c.args.text.now (values_of s)) c.slots_from.ensures)) in
     let long : length (printed Plain c.args.text.now values) ≡ length c.in_ok-bytes.bytes.items = ap (λ (bs : List ℕ). length bs) (sym bytes ∙ c.new.ensures) in
     let size : c.new-size.result ≡ int_of (pos (length (printed Plain c.args.text.now values))) = int_is _ _ c.new-size.ensures.ctype (let number : c.new-size.result.number ≡ pos (length c.in_ok-bytes.bytes.items) = grind (arith, ints, to_z-of_z) in number ∙ ap (λ (n : ℕ). pos n) (sym long)) in
     c.in-Some.ensures.1 _ ∙ (from_same _ _ _ (ap (λ (bs : List ℕ). operation c.args.line (op.Out bs) m.state (when_done (int_of (pos (length (printed Plain c.args.text.now values)))))) (sym bytes)

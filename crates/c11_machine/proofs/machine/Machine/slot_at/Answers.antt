@@ -1,4 +1,4 @@
-use Rattle.std.proofs.Common.{reverse, drop, ap, sym, ◌∙◌, List, ◌∷◌, ◌+◌, ◌-◌, ◌<◌, length, arith}
+use Rattle.std.proofs.Common.{reverse, drop, ap, sym, ◌∙◌, ◌∷◌, ◌+◌, ◌-◌, arith}
 use Rattle.c11_flat.specs.declared.slot.Slot.{Slot}
 use Rattle.c11_machine.proofs.Stacks.{slot_below}
 use Rattle.c11_machine.proofs.machine.Machine.slot_at.Goals as goal

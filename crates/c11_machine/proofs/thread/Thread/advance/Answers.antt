@@ -17,7 +17,7 @@ pub returns-then-self-clause-asks : goal.returns-then-self-clause-asks
 returns-then-self-clause-asks c = asks_then c.args.code.now c.args.self.now c.run.result (subst (λ (t : Standing). IfOk c.run.result (λ ask. Comes c.args.code.now t ask)) c.self.view_is (comes_run c.args.code.now c.self.inside.begun (config_of c.self.inside.machine) (config_of c.run.new.self) c.run.result c.if-self.true c.run.ensures.reaches c.run.ensures.asks))
 
 pub returns-then-self-clause-again : goal.returns-then-self-clause-again
-returns-then-self-clause-again c = again_run c.args.code.now c.self.inside.begun (config_of c.self.inside.machine) (config_of c.run.new.self) c.if-self.true c.run.ensures.reaches (subst (λ (t : Standing). CanAsk c.args.code.now t) (sym c.self.view_is) c.requires)
+returns-then-self-clause-again c ask comes = again_run c.args.code.now c.self.inside.begun (config_of c.self.inside.machine) (config_of c.run.new.self) ask c.if-self.true c.run.ensures.reaches (subst (λ (t : Standing). Comes c.args.code.now t ask) (sym c.self.view_is) comes)
 
 pub returns-in_default-clause-comes : goal.returns-in_default-clause-comes
 returns-in_default-clause-comes c = subst (λ (t : Standing). Comes c.args.code.now t (record { line = 0; op = op.Begin })) c.self.view_is (begins_with c.args.code.now c.self.inside.begun c.self.inside.machine c.if-self.false c.in_default.is)
@@ -35,4 +35,4 @@ pub returns-clause-asks : goal.returns-clause-asks
 returns-clause-asks c = asks_then c.args.code.now c.args.self.now c.run-2.result (subst (λ (t : Standing). IfOk c.run-2.result (λ ask. Comes c.args.code.now t ask)) c.self.view_is (comes_begun c.args.code.now c.self.inside.begun (config_of c.self.inside.machine) (config_of c.begin.new.self) (config_of c.run-2.new.self) c.run-2.result c.if-self.false (begins_on _ (config_of c.self.inside.machine) (config_of c.begin.new.self) _ c.if-not-branch.false c.in_ok-begin.ensures) c.run-2.ensures.reaches c.run-2.ensures.asks))
 
 pub returns-clause-again : goal.returns-clause-again
-returns-clause-again c = again_begun c.args.code.now c.self.inside.begun (config_of c.self.inside.machine) (config_of c.begin.new.self) (config_of c.run-2.new.self) c.if-self.false (begins_on _ (config_of c.self.inside.machine) (config_of c.begin.new.self) _ c.if-not-branch.false c.in_ok-begin.ensures) c.run-2.ensures.reaches (subst (λ (t : Standing). CanAsk c.args.code.now t) (sym c.self.view_is) c.requires)
+returns-clause-again c ask comes = again_begun c.args.code.now c.self.inside.begun (config_of c.self.inside.machine) (config_of c.begin.new.self) (config_of c.run-2.new.self) ask c.if-self.false (begins_on _ (config_of c.self.inside.machine) (config_of c.begin.new.self) _ c.if-not-branch.false c.in_ok-begin.ensures) c.run-2.ensures.reaches (subst (λ (t : Standing). Comes c.args.code.now t ask) (sym c.self.view_is) comes)
