@@ -1,5 +1,5 @@
 -- What an answer says of what was written.
-use Rattle.std.proofs.Common.{◌≡◌, ◌≢◌, ℕ, ◌+◌, ◌<◌, List, [], Option, Some, None, Result, Ok, Err, IfOk, length, arith, refl, sym, ◌∙◌, subst, inl, inr}
+use Rattle.std.proofs.Common.{◌≡◌, ◌≢◌, ℕ, ◌+◌, ◌<◌, List, Option, Some, None, Result, Ok, Err, IfOk, length, arith, refl, sym, ◌∙◌, subst, inl, inr}
 use Rattle.std.specs.Io.KnownBytes.{IsAtEnd}
 use Rattle.c11_io.specs.Causes.{Rose}
 use Rattle.c11_io.specs.Whole.{OneRose, LosesFront}
@@ -9,7 +9,15 @@ use Rattle.c11t.specs.declared.words.Status.{Status}
 use Rattle.c11t.specs.declared.words.Status.TheVariants.{Refused, WriteFault}
 use Rattle.c11t.specs.declared.form.Statement.{Statement}
 use Rattle.c11t.specs.FirstForm.{IsWritten}
-use Rattle.c11t.specs.Answers.{status_of, EndsRun, Held, IsRefused, IsDue, PrintsRun, PrintsRefusal, PrintsPart, Writes, whole, part}
+use Rattle.std.proofs.Common.{replicate, IsTrue, ◌↔◌}
+use Rattle.std.proofs.lemmas.List.{length-replicate}
+use Rattle.c11_report.specs.declared.refusal.Refusal.{Refusal}
+use Rattle.c11_report.specs.Refusals.{has_place, HasSome}
+use Rattle.c11_accepts.specs.declared.whole.AcceptStop.{AcceptStop}
+use Rattle.c11_accepts.specs.declared.whole.AcceptStop.TheVariants as accepting
+use Rattle.c11_accepts.specs.Texts.{long, too_long, IsStop, IsRefusedAs}
+use Rattle.c11_accepts.proofs.Judging.{places_fit}
+use Rattle.c11t.specs.Answers.{status_of, EndsRun, Held, IsUnwritten, IsRefused, unaccepted, unformed, IsDue, PrintsRun, PrintsRefusal, PrintsPart, Writes, whole, part}
 
 ends_run : (v : Verdict) → EndsRun (status_of v)
 ends_run verdict.Done = tt
@@ -57,27 +65,50 @@ pub good_as : {T E : Type 0} (r : Result T E) (P Q : T → Type 0) → ((v : T) 
 good_as (Ok v) P Q f p = f v p
 good_as (Err e) P Q f p = p
 
--- a text of more bytes than a program may have is refused
-pub too_long : (text : List ℕ) → 65536 < length text → IsRefused text
-too_long text long names statements w = omega (arith, w.short)
+-- a text of more bytes than a program may have is refused as too long
+too_long_refused : (text : List ℕ) → 65536 < length text → IsRefused text too_long
+too_long_refused text more = unaccepted (λ names statements w. omega (arith, more, w.short)) (long more)
 
--- so is the empty text
-empty_refused : IsRefused []
-empty_refused names statements w = let e = w.bytes in cc
+some_text : (n : ℕ) → (text : List ℕ) × (length text ≡ n)
+some_text n = (replicate n 0, length-replicate n 0)
 
--- where more bytes were taken than a program may have, the text is refused
-pub refused_long : (left now : Option (List ℕ)) → LosesFront left now (65536 + 1) → (text : List ℕ) × (Held left text × IsRefused text)
-refused_long None now gone = ([], (tt, empty_refused))
-refused_long (Some all) now gone = (all, (refl, too_long all (let count = gone.0 in omega arith)))
+-- where more bytes were taken than a program may have, the text is refused so
+pub refused_long : (left now : Option (List ℕ)) → LosesFront left now (65536 + 1) → (text : List ℕ) × (Held left text × IsRefused text too_long)
+refused_long None now gone = let some = some_text (65536 + 1) in (some.0, (tt, too_long_refused some.0 (omega (arith, some.1))))
+refused_long (Some all) now gone = (all, (refl, too_long_refused all (let count = gone.0 in omega arith)))
+
+-- a text that is not of the first form was written of none
+unwritten : (text : List ℕ) (refusal : Refusal) → IsRefused text refusal → IsUnwritten text
+unwritten text _ (unaccepted none is) = none
+unwritten text _ (unformed none is) = none
 
 -- where the text is a program's and nothing failed, a run was printed
 pub complete : (left now before after : Option (List ℕ)) (seed bound faults faults' empties empties' : ℕ) (bytes : List ℕ) (status : Status) → IsDue left seed bound status bytes → (result : Status) → Writes before after faults faults' empties empties' bytes status result
     → (text names : List ℕ) (statements : List Statement) → left ≡ Some text → IsWritten text names statements → (Rose faults faults' → ⊥) → (Rose empties empties' → ⊥) → EndsRun result
 complete left now before after seed bound faults faults' empties empties' bytes status due _ (whole a f e) text names statements held written no_fault no_empty = elim due [
   | inl r ↦ subst EndsRun (sym r.ends) (ends_run r.verdict)
-  | inr r ↦ absurd (let same : r.text ≡ text = subst (λ (l : Option (List ℕ)). Held l r.text) held r.held in r.refused names statements (subst (λ (t : List ℕ). IsWritten t names statements) (sym same) written))
+  | inr r ↦ absurd (let same : r.text ≡ text = subst (λ (l : Option (List ℕ)). Held l r.text) held r.held in unwritten r.text r.refusal r.refused names statements (subst (λ (t : List ℕ). IsWritten t names statements) (sym same) written))
 ]
 complete left now before after seed bound faults faults' empties empties' bytes status due _ (part a o) text names statements held written no_fault no_empty = elim o [
   | inl p ↦ absurd (no_fault p.0)
   | inr p ↦ absurd (no_empty p.1)
 ]
+
+-- where the text is refused and nothing failed, a refusal was printed
+pub refuses : (left now before after : Option (List ℕ)) (seed bound faults faults' empties empties' : ℕ) (bytes : List ℕ) (status : Status) → IsDue left seed bound status bytes → (result : Status) → Writes before after faults faults' empties empties' bytes status result
+    → (text : List ℕ) (refusal : Refusal) → left ≡ Some text → IsRefused text refusal → (Rose faults faults' → ⊥) → (Rose empties empties' → ⊥) → result ≡ Refused
+refuses left now before after seed bound faults faults' empties empties' bytes status due _ (whole a f e) text refusal held is no_fault no_empty = elim due [
+  | inl r ↦ absurd (let same : r.text ≡ text = subst (λ (l : Option (List ℕ)). Held l r.text) held r.held in unwritten text refusal is r.names r.statements (subst (λ (t : List ℕ). IsWritten t r.names r.statements) same r.written))
+  | inr r ↦ r.ends
+]
+refuses left now before after seed bound faults faults' empties empties' bytes status due _ (part a o) text refusal held is no_fault no_empty = elim o [
+  | inl p ↦ absurd (no_fault p.0)
+  | inr p ↦ absurd (no_empty p.1)
+]
+
+-- a stop that is a refusal is that of the text
+pub stopped_so : (text : List ℕ) (stop : AcceptStop) (refusal : Refusal) → IsStop text stop → stop ≡ accepting.Refused refusal → IsRefusedAs text refusal
+stopped_so text stop refusal stopped is = subst (λ (s : AcceptStop). IsStop text s) is stopped
+
+pub fits : (text : List ℕ) (stop : AcceptStop) (refusal : Refusal) → IsStop text stop → stop ≡ accepting.Refused refusal → IsTrue (has_place refusal.word) ↔ HasSome refusal.place
+fits text stop refusal stopped is = places_fit text refusal (stopped_so text stop refusal stopped is)

@@ -7,3 +7,4 @@ pub mod Running
 pub mod Settings
 pub mod Sizes
 pub mod WordsLemmas
+pub mod Refusing

@@ -3,6 +3,7 @@ use Rattle.std.specs.Prelude.{◌≡◌, ◌⊎◌, ℕ, List, Option, Some, Non
 use Rattle.std.specs.Io.KnownBytes.{Appends, IsAtEnd}
 use Rattle.c11_io.specs.Causes.{Rose}
 use Rattle.c11_io.specs.Whole.{AppendsPart, OneRose}
+use Rattle.c11_ast.specs.declared.item.Program.{Program}
 use Rattle.c11_events.specs.declared.entry.Entry.{Entry}
 use Rattle.c11_events.specs.declared.verdict.Verdict.{Verdict}
 use Rattle.c11_events.specs.declared.verdict.Verdict.TheVariants as verdict
@@ -21,7 +22,9 @@ use Rattle.c11t.specs.FirstForm.{IsWritten}
 use Rattle.c11t.specs.Programs.{program_of, form_names}
 use Rattle.c11t.specs.Runs.{OneRun}
 use Rattle.c11_report.specs.declared.refusal.RefusalWord.TheVariants.{Form}
+use Rattle.c11_report.specs.declared.refusal.Refusal.{Refusal}
 use Rattle.c11_report.specs.Refusals.{refusal_bytes}
+use Rattle.c11_accepts.specs.Texts.{Accepts, IsRefusedAs}
 use Rattle.c11_report.specs.Execution.{execution_bytes}
 use Rattle.c11t.specs.Usage.{usage_bytes}
 
@@ -42,9 +45,19 @@ EndsRun _ = ⊥
 abbrev pub Held : Option (List ℕ) → List ℕ → Type 0
 Held left text = IfSome left (λ all. text ≡ all)
 
--- no program is written so
-abbrev pub IsRefused : List ℕ → Type 0
-IsRefused text = (names : List ℕ) (statements : List Statement) → IsWritten text names statements → ⊥
+-- no program of the first form is written so
+abbrev pub IsUnwritten : List ℕ → Type 0
+IsUnwritten text = (names : List ℕ) (statements : List Statement) → IsWritten text names statements → ⊥
+
+-- the program is of another form than the first, which alone is executed yet
+abbrev pub other_form : Refusal
+other_form = record { word = Form; place = None }
+
+-- A text that is not of the first form is refused so: as it is where it is not accepted, and else for its form. A text of the first form
+-- is not refused; that it is accepted is not said here.
+pub data IsRefused (text : List ℕ) : Refusal → Type 0 where
+  unaccepted : {refusal : Refusal} → IsUnwritten text → IsRefusedAs text refusal → IsRefused text refusal
+  unformed : {program : Program} → IsUnwritten text → Accepts text program → IsRefused text other_form
 
 -- The headline, of a run: the source held the text of a program; these are the entries and the verdict of its one run with the seed
 -- and the bound, in which each step is what its thread asks for next on the replies that it had, and the stores offered to each read
@@ -63,17 +76,14 @@ pub record IsPrintedRun (left : Option (List ℕ)) (seed bound : ℕ) (status : 
   pub ends : status ≡ status_of verdict
   pub printed : bytes ≡ execution_bytes (form_names names) mode.Run seed bound entries verdict
 
--- what is written of a text that is no program of the first form
-abbrev pub refused_bytes : List ℕ
-refused_bytes = refusal_bytes (record { word = Form; place = None })
-
--- the source held a text that is no program, and the bytes say so
+-- the source held a text that is refused, and the bytes are the text of its refusal
 pub record IsPrintedRefusal (left : Option (List ℕ)) (status : Status) (bytes : List ℕ) : Type 0 where
   pub text : List ℕ
   pub held : Held left text
-  pub refused : IsRefused text
+  pub refusal : Refusal
+  pub refused : IsRefused text refusal
   pub ends : status ≡ Refused
-  pub printed : bytes ≡ refused_bytes
+  pub printed : bytes ≡ refusal_bytes refusal
 
 -- the bytes are due, with this status, for what the source held
 abbrev pub IsDue : Option (List ℕ) → ℕ → ℕ → Status → List ℕ → Type 0

@@ -6,3 +6,4 @@ pub mod RunLaws
 pub mod Runs
 pub mod Usage
 pub mod Words
+pub mod RefusalLaws

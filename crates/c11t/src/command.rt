@@ -9,6 +9,7 @@ ghost use Rattle.c11t.specs.FirstForm.{IsWritten};
 use crate::form::{FirstForm, FormStop, read_form};
 use crate::run::make_run;
 use crate::words::Status;
+use c11_accepts::{AcceptStop, accept};
 use c11_events::{FunctionInfo, Verdict};
 use c11_io::{ReadStop, Sink, Source, read_all, write_all};
 use c11_num::{Name, NoMemory};
@@ -52,6 +53,11 @@ pub fn run_command<S: Source, K: Sink>(
     ensures complete { (text names : List ℕ) (statements : List Statement) → S.left source.old ≡ Some text → IsWritten text names statements
         → (Rose (S.faults source.old) (S.faults source.new) → ⊥) → (Rose (K.faults sink.old) (K.faults sink.new) → ⊥)
         → (Rose (K.empties sink.old) (K.empties sink.new) → ⊥) → EndsRun result ⊎ (result ≡ Status.NoMemory) }
+
+    // Where it is refused and nothing fails, the refusal is written, if there is memory.
+    ensures refuses { (text : List ℕ) (refusal : Refusal) → S.left source.old ≡ Some text → IsRefused text refusal
+        → (Rose (S.faults source.old) (S.faults source.new) → ⊥) → (Rose (K.faults sink.old) (K.faults sink.new) → ⊥)
+        → (Rose (K.empties sink.old) (K.empties sink.new) → ⊥) → (result ≡ Status.Refused) ⊎ (result ≡ Status.NoMemory) }
 {
     match text_due(alloc, seed, steps, source) {
         Ok(due) => answer(sink, &due),
@@ -110,7 +116,7 @@ fn text_due<S: Source>(alloc: Global, seed: u64, steps: u32, source: &mut S) -> 
 {
     match read_all(alloc, source, LONGEST) {
         Ok(text) => text_due_for(alloc, text.as_slice(), seed, steps),
-        Err(ReadStop::TooLong) => refusal(alloc),
+        Err(ReadStop::TooLong) => refusal(alloc, TOO_LONG),
         Err(ReadStop::Fault) => Err(DueStop::Fault),
         Err(ReadStop::NoMemory) => Err(DueStop::NoMemory),
     }
@@ -128,21 +134,43 @@ fn text_due_for(alloc: Global, text: &[u8], seed: u64, steps: u32) -> Result<Due
             Ok(due) => Ok(due),
             Err(_) => Err(DueStop::NoMemory),
         },
-        Err(FormStop::Form) => refusal(alloc),
+        Err(FormStop::Form) => refusal_due(alloc, text),
         Err(FormStop::NoMemory) => Err(DueStop::NoMemory),
     }
 }
 
-// What is due for a text that is no program.
-fn refusal(alloc: Global) -> Result<Due, DueStop>
-    ensures due { IfOk result (λ due. (due.status ≡ Status.Refused) × (due.text.items ≡ refused_bytes)) }
+// What is due for a text that is not of the first form.
+fn refusal_due(alloc: Global, text: &[u8]) -> Result<Due, DueStop>
+    requires { IsUnwritten text.now }
+    ensures due { IfOk result (λ due. IsPrintedRefusal (Some text.now) due.status due.text.items) }
     ensures stop { IfErr result (λ stop. stop ≡ DueStop.NoMemory) }
 {
-    let form = Refusal {
-        word: RefusalWord::Form,
-        place: None,
-    };
-    match refusal_text(alloc, &form) {
+    match accept(alloc, text) {
+        Ok(_checked) => refusal(alloc, OTHER_FORM),
+        Err(AcceptStop::Refused(why)) => refusal(alloc, why),
+        Err(AcceptStop::NoMemory) => Err(DueStop::NoMemory),
+    }
+}
+
+// The refusal of a text of too many bytes.
+const TOO_LONG: Refusal = Refusal {
+    word: RefusalWord::Long,
+    place: None,
+};
+
+// The refusal of a program that is not executed yet.
+const OTHER_FORM: Refusal = Refusal {
+    word: RefusalWord::Form,
+    place: None,
+};
+
+// What is due for a text that is refused so.
+fn refusal(alloc: Global, why: Refusal) -> Result<Due, DueStop>
+    requires { IsTrue (has_place why.word) ↔ HasSome why.place }
+    ensures due { IfOk result (λ due. (due.status ≡ Status.Refused) × (due.text.items ≡ refusal_bytes why)) }
+    ensures stop { IfErr result (λ stop. stop ≡ DueStop.NoMemory) }
+{
+    match refusal_text(alloc, &why) {
         Ok(text) => Ok(Due {
             text,
             status: Status::Refused,
@@ -197,4 +225,7 @@ fn main_of(alloc: Global, form: &FirstForm) -> Result<FunctionInfo, NoMemory>
 
 ghost use Rattle.std.specs.Prelude.{◌+◌, length, codes};
 ghost use Rattle.c11t.specs.Answers.{HasDueCause};
-ghost use Rattle.c11t.specs.Answers.{refused_bytes};
+ghost use Rattle.c11t.specs.Answers.{IsUnwritten, IsRefused, IsPrintedRefusal};
+ghost use Rattle.c11_report.specs.declared.refusal.Refusal.{Refusal};
+ghost use Rattle.std.specs.Prelude.{◌↔◌, IsTrue};
+ghost use Rattle.c11_report.specs.Refusals.{has_place, HasSome, refusal_bytes};

@@ -14,3 +14,15 @@ pub fn legal_histories()
     ensures history { LegalIsHistory Offered }
     ensures form { FormAsksNoInit }
 {}
+
+ghost use Rattle.c11t.specs.RefusalLaws.{OneRefusal};
+
+use c11_accepts::laws as texts;
+
+/// A text is refused in one way at most, so what is written then is determined.
+pub fn one_refusal()
+    ensures { OneRefusal }
+{
+    texts::one_refusal();
+    texts::not_both();
+}

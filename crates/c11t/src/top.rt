@@ -2,8 +2,9 @@ ghost use Rattle.std.specs.Prelude.{◌≡◌, ◌≢◌, ◌⊎◌, List, ℕ, 
 ghost use Rattle.std.specs.Io.KnownBytes.{Appends};
 ghost use Rattle.c11_io.specs.Causes.{Rose};
 ghost use Rattle.c11_io.specs.Whole.{OneRose};
+ghost use Rattle.c11_report.specs.declared.refusal.Refusal.{Refusal};
 ghost use Rattle.c11t.specs.declared.form.Statement.{Statement};
-ghost use Rattle.c11t.specs.Answers.{EndsRun, PrintsCommand, PrintsRefusal, PrintsPartOf, WritesUsage};
+ghost use Rattle.c11t.specs.Answers.{EndsRun, IsRefused, PrintsCommand, PrintsRefusal, PrintsPartOf, WritesUsage};
 ghost use Rattle.c11t.specs.FirstForm.{IsWritten};
 ghost use Rattle.c11t.specs.Usage.{usage_bytes};
 ghost use Rattle.c11t.specs.Words.{reading};
@@ -58,6 +59,10 @@ pub fn c11t<R, S: Source, K: Sink, G: Gate + Sync>(
         → S.left source.old ≡ Some text → IsWritten text names statements → (Rose (S.faults source.old) (S.faults source.new) → ⊥)
         → (Rose (K.faults sink.old) (K.faults sink.new) → ⊥) → (Rose (K.empties sink.old) (K.empties sink.new) → ⊥)
         → EndsRun result ⊎ (result ≡ Status.NoMemory) }
+    ensures refuses { (text : List ℕ) (refusal : Refusal) → IsSome (reading (map string_bytes words.now))
+        → S.left source.old ≡ Some text → IsRefused text refusal → (Rose (S.faults source.old) (S.faults source.new) → ⊥)
+        → (Rose (K.faults sink.old) (K.faults sink.new) → ⊥) → (Rose (K.empties sink.old) (K.empties sink.new) → ⊥)
+        → (result ≡ Status.Refused) ⊎ (result ≡ Status.NoMemory) }
 {
     match read_words(words) {
         Some(command) => execute(alloc, command, source, sink),
@@ -90,6 +95,9 @@ fn execute<S: Source, K: Sink>(
     ensures complete { (text names : List ℕ) (statements : List Statement) → S.left source.old ≡ Some text → IsWritten text names statements
         → (Rose (S.faults source.old) (S.faults source.new) → ⊥) → (Rose (K.faults sink.old) (K.faults sink.new) → ⊥)
         → (Rose (K.empties sink.old) (K.empties sink.new) → ⊥) → EndsRun result ⊎ (result ≡ Status.NoMemory) }
+    ensures refuses { (text : List ℕ) (refusal : Refusal) → S.left source.old ≡ Some text → IsRefused text refusal
+        → (Rose (S.faults source.old) (S.faults source.new) → ⊥) → (Rose (K.faults sink.old) (K.faults sink.new) → ⊥)
+        → (Rose (K.empties sink.old) (K.empties sink.new) → ⊥) → (result ≡ Status.Refused) ⊎ (result ≡ Status.NoMemory) }
 {
     match command {
         Command::Run { seed, steps } => run_command(alloc, seed, steps, source, sink),

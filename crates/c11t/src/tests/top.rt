@@ -1,8 +1,9 @@
 use super::{HEAD, LOAD, STORE, words_of};
 use crate::top::c11t;
 use crate::words::Status;
+use c11_accepts::accept;
 use c11_io::{MemSink, MemSource, OpenGate, read_all};
-use std::alloc::Global;
+use std::alloc::{AllocError, Global};
 use std::test::Fail;
 
 // The program of the first row: one store, and one load that reads it.
@@ -107,9 +108,20 @@ fn a_run_ends_where_its_program_or_its_bound_says(rt: HostRuntime) -> Result<(),
 }
 
 #[test]
-fn texts_of_another_form_are_refused(rt: HostRuntime) -> Result<(), Fail> {
-    // 65,536 bytes are a program, and with one more the text is too long.
-    let mut long = String::from_str(rt.alloc(), HEAD)?;
+fn texts_of_the_first_form_are_accepted(rt: HostRuntime) -> Result<(), Fail> {
+    for text in [
+        FIRST,
+        TWO_CELLS,
+        "#include <stdatomic.h>\nint main(void) {\n}\n",
+    ] {
+        assert!(rt; accept(rt.alloc(), text.as_bytes()).is_ok(), "{text}");
+    }
+    Ok(())
+}
+
+// A text of the first form of 65,537 bytes, the last one a line feed too many.
+fn long_text(alloc: Global) -> Result<String, AllocError> {
+    let mut long = String::from_str(alloc, HEAD)?;
     for _ in 0..20 {
         long.push_str(STORE)?;
     }
@@ -117,19 +129,40 @@ fn texts_of_another_form_are_refused(rt: HostRuntime) -> Result<(), Fail> {
         long.push_str(LOAD)?;
     }
     long.push_str("}\n\n")?;
+    Ok(long)
+}
+
+#[test]
+fn texts_that_are_not_run_are_refused_for_the_first_that_applies(
+    rt: HostRuntime,
+) -> Result<(), Fail> {
+    let long = long_text(rt.alloc())?;
     assert_eq!(rt; long.len(), 65_537);
-    for text in [
-        "",
-        "}\n",
-        "#include <stdatomic.h>\r\nint main(void) {\r\n}\r\n",
-        "#include <stdatomic.h>\nint main(void) {\n}",
-        "#include <stdatomic.h>\nint main(void) {\n}\n\0",
-        "#include <stdatomic.h>\natomic_int x;\natomic_int x;\nint main(void) {\n}\n",
-        long.as_str(),
+    for (text, printed) in [
+        ("", "refused nomain 1 1\n"),
+        ("}\n", "refused item 1 1\n"),
+        ("int x;\nint main(void) {\n", "refused item 2 1\n"),
+        (
+            "#include <stdatomic.h>\nint main(void) {\n}\n\0",
+            "refused byte 4 1\n",
+        ),
+        (
+            "#include <stdatomic.h>\natomic_int x;\natomic_int x;\nint main(void) {\n}\n",
+            "refused twice 3 12\n",
+        ),
+        (
+            "#include <stdatomic.h>\nint main(void) {\n}",
+            "refused form\n",
+        ),
+        (
+            "#include <stdatomic.h>\r\nint main(void) {\r\n}\r\n",
+            "refused form\n",
+        ),
+        (long.as_str(), "refused long\n"),
     ] {
         let (status, taken) = answer(rt.alloc(), "run", text)?;
         assert_eq!(rt; status, Status::Refused);
-        assert_eq!(rt; taken.as_slice(), b"refused form\n".as_slice());
+        assert_eq!(rt; taken.as_slice(), printed.as_bytes());
     }
     Ok(())
 }

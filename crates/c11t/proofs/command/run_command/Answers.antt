@@ -30,3 +30,7 @@ returns-in-Ok-clause-sink_kept g c = answering.kept _ (g.S.Source.left c.text_du
 pub returns-in-Ok-clause-complete : goal.returns-in-Ok-clause-complete
 returns-in-Ok-clause-complete g c = λ text names statements held written no_read no_fault no_empty.
     inl (answering.complete _ (g.S.Source.left c.text_due.new.source) _ _ _ _ _ _ _ _ _ _ c.in-Ok.ensures.due c.answer.result c.answer.ensures text names statements held written no_fault no_empty)
+
+pub returns-in-Ok-clause-refuses : goal.returns-in-Ok-clause-refuses
+returns-in-Ok-clause-refuses g c = λ text refusal held is no_read no_fault no_empty.
+    inl (answering.refuses _ (g.S.Source.left c.text_due.new.source) _ _ _ _ _ _ _ _ _ _ c.in-Ok.ensures.due c.answer.result c.answer.ensures text refusal held is no_fault no_empty)

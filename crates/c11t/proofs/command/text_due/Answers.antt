@@ -1,10 +1,11 @@
 use Rattle.std.proofs.Common.{◌≡◌, inr, subst}
 use Rattle.c11_io.specs.declared.whole.ReadStop.{ReadStop}
 use Rattle.c11_io.specs.Whole.{StopsReading}
+use Rattle.c11_report.specs.Refusals.{refusal_bytes}
+use Rattle.c11_accepts.specs.Texts.{too_long}
 use Rattle.c11t.specs.declared.command.Due.{Due}
 use Rattle.c11t.specs.declared.words.Status.TheVariants.{Refused}
 use Rattle.c11t.specs.Answers.{IsDue}
-use Rattle.c11t.specs.Answers.{refused_bytes}
 use Rattle.c11t.proofs.Answering.{good_as, refused_long}
 use Rattle.c11t.proofs.command.text_due.Goals as goal
 
@@ -14,5 +15,5 @@ returns-in-Err-TooLong-clause-due g c =
     let now = g.S.Source.left c.read_all.new.source in
     let gone = subst (λ (s : ReadStop). StopsReading left now 65536 s) c.in-Err-TooLong.field-0-is c.in-Err-TooLong.ensures.stops in
     let long = refused_long left now gone in
-    good_as c.refusal.result (λ (due : Due). (due.status ≡ Refused) × (due.text.items ≡ refused_bytes)) (λ (due : Due). IsDue left c.args.seed c.args.steps due.status due.text.items)
-    (λ due p. inr (record { text = long.0; held = long.1.0; refused = long.1.1; ends = p.0; printed = p.1 })) c.refusal.ensures.due
+    good_as c.refusal.result (λ (due : Due). (due.status ≡ Refused) × (due.text.items ≡ refusal_bytes too_long)) (λ (due : Due). IsDue left c.args.seed c.args.steps due.status due.text.items)
+    (λ due p. inr (record { text = long.0; held = long.1.0; refusal = too_long; refused = long.1.1; ends = p.0; printed = p.1 })) c.refusal.ensures.due

@@ -8,3 +8,6 @@ execute-requires g c = reading_bound (map (string_bytes {Z = Global}) c.args.wor
 
 pub returns-in-Some-clause-complete : goal.returns-in-Some-clause-complete
 returns-in-Some-clause-complete g c = λ text names statements some held written no_read no_fault no_empty. c.execute.ensures.complete text names statements held written no_read no_fault no_empty
+
+pub returns-in-Some-clause-refuses : goal.returns-in-Some-clause-refuses
+returns-in-Some-clause-refuses g c = λ text refusal some held is no_read no_fault no_empty. c.execute.ensures.refuses text refusal held is no_read no_fault no_empty
