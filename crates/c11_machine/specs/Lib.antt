@@ -2,6 +2,8 @@ pub mod Answers
 pub mod Effects
 pub mod Looks
 pub mod Measures
+pub mod Programs
+pub mod Runs
 pub mod Slots
 pub mod Stands
 pub mod Steps

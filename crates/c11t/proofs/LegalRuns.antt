@@ -15,7 +15,7 @@ use Rattle.c11t.specs.declared.form.Action.TheVariants.{Store, Load}
 use Rattle.c11t.specs.declared.form.Statement.{Statement}
 use Rattle.c11t.specs.FirstForm.{line_of_statement}
 use Rattle.c11t.specs.Programs.{action_op, end_ask, ask_at, ask_after}
-use Rattle.c11t.specs.Runs.{Program, Legal, start, more, OnTheWay, begins, goes}
+use Rattle.c11_machine.specs.Runs.{Program, Legal, start, more, OnTheWay, begins, goes}
 use Rattle.c11t.specs.RunLaws.{OneRunIsLegal, LegalIsConsistent, LegalIsHistory, FormAsksNoInit}
 
 pub way_legal : (Offers : Offering) (program : Program) (seed bound k : ℕ) (entries : List Entry) → OnTheWay Offers program seed bound k entries → Legal Offers program bound entries

@@ -22,7 +22,7 @@ use Rattle.c11_events.specs.Steps.{IsStep, ReadsOffered, init_entries}
 use Rattle.c11_events.specs.Threads.{blocked_by}
 use Rattle.c11_events.specs.Verdicts.{IsStuck, IsEnabled, VerdictOf, StepVerdict, LastVerdict, no_race, race, by_last, by_bound, undecided, by_steps, by_deadlock, goes_on}
 use Rattle.c11_events.proofs.Basics.{at_same}
-use Rattle.c11t.specs.Runs.{Program, next_of, IsLegalStep, IsChosen, OnTheWay, begins, goes}
+use Rattle.c11_machine.specs.Runs.{Program, next_of, IsLegalStep, IsChosen, OnTheWay, begins, goes}
 use Rattle.c11t.specs.RunLaws.{OneRunIsOne}
 use Rattle.c11t.proofs.LegalRuns.{way_legal, length-inits, legal_longer}
 

@@ -46,7 +46,7 @@ use Rattle.c11t.specs.declared.form.Action.{Action}
 use Rattle.c11t.specs.declared.form.Action.TheVariants.{Store, Load}
 use Rattle.c11t.specs.FirstForm.{IsProgram, IsStatement, line_of_statement}
 use Rattle.c11t.specs.Programs.{cells_of, action_op, end_ask, ask_at, ask_after, program_of}
-use Rattle.c11t.specs.Runs.{Program, next_of, IsLegalStep, IsChosen, OnTheWay, begins, goes}
+use Rattle.c11_machine.specs.Runs.{Program, next_of, IsLegalStep, IsChosen, OnTheWay, begins, goes}
 
 -- a history on the way is consistent
 pub way_consistent : (program : Program) (seed bound k : ℕ) (entries : List Entry) → OnTheWay Offered program seed bound k entries → Consistent (events_of entries)

@@ -20,7 +20,7 @@ use Rattle.c11t.specs.declared.words.Status.{Status}
 use Rattle.c11t.specs.declared.words.Status.TheVariants.{Done, Found, Bound, Refused, Usage, WriteFault}
 use Rattle.c11t.specs.FirstForm.{IsWritten}
 use Rattle.c11t.specs.Programs.{program_of, form_names}
-use Rattle.c11t.specs.Runs.{OneRun}
+use Rattle.c11_machine.specs.Runs.{OneRun}
 use Rattle.c11_report.specs.declared.refusal.RefusalWord.TheVariants.{Form}
 use Rattle.c11_report.specs.declared.refusal.Refusal.{Refusal}
 use Rattle.c11_report.specs.Refusals.{refusal_bytes}

@@ -3,7 +3,6 @@ pub mod FirstForm
 pub mod Fronts
 pub mod Programs
 pub mod RunLaws
-pub mod Runs
 pub mod Usage
 pub mod Words
 pub mod RefusalLaws

@@ -13,7 +13,7 @@ use Rattle.c11t.specs.declared.form.Action.{Action}
 use Rattle.c11t.specs.declared.form.Action.TheVariants.{Store, Load}
 use Rattle.c11t.specs.declared.form.Statement.{Statement}
 use Rattle.c11t.specs.FirstForm.{line_of_statement, line_of_end}
-use Rattle.c11t.specs.Runs.{Program}
+use Rattle.c11_machine.specs.Runs.{Program}
 use Rattle.c11_report.specs.Execution.{Names}
 
 -- an `int` value

@@ -11,7 +11,7 @@ use Rattle.c11_events.specs.Offered.{Offered}
 use Rattle.c11_events.specs.Steps.{Offering, init_entries, is_init}
 use Rattle.c11t.specs.declared.form.Statement.{Statement}
 use Rattle.c11t.specs.Programs.{program_of}
-use Rattle.c11t.specs.Runs.{Program, Legal, OneRun}
+use Rattle.c11_machine.specs.Runs.{Program, Legal, OneRun}
 
 -- the history of the one run is one that the program and the bound allow, whatever is offered
 abbrev pub OneRunIsLegal : Offering → Type 0

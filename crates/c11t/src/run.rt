@@ -3,7 +3,7 @@ ghost use Rattle.c11_events.specs.Offered.{Offered};
 ghost use Rattle.c11_memory.specs.Sound.{IsSimpleOp};
 ghost use Rattle.c11t.specs.FirstForm.{IsProgram, AreNames};
 ghost use Rattle.c11t.specs.Programs.{cells_of, ask_after, program_of, action_op};
-ghost use Rattle.c11t.specs.Runs.{OneRun};
+ghost use Rattle.c11_machine.specs.Runs.{OneRun};
 
 use crate::form::{Action, FirstForm};
 use c11_events::{Ask, CellInfo, Op, Order, Verdict};
