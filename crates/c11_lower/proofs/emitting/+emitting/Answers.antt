@@ -1,4 +1,4 @@
-use Rattle.std.proofs.Common.{rules, arith, ◌≡◌, ℕ, ◌+◌, List, [], ◌∷◌, ◌++◌, length, take, ap, ◌∙◌, subst, Option, sym}
+use Rattle.std.proofs.Common.{rules, arith, ◌≡◌, ℕ, ◌+◌, List, [], ◌∷◌, ◌++◌, length, take, ap, ◌∙◌, subst, Option}
 use Rattle.c11_ast.specs.declared.stmt.Stmt.{Stmt}
 use Rattle.c11_ast.specs.declared.stmt.Arm.{Arm}
 use Rattle.c11_check.specs.Scopes.{Scope, entered}
