@@ -2,3 +2,4 @@ pub mod Fitting
 pub mod Counted
 pub mod Joins
 pub mod Parts
+pub mod Typed

@@ -141,7 +141,7 @@ fn links_type(scopes: &Scopes, left: CType, chain: &Expr) -> CType
     let mut left = left;
     if let Expr::Chain { rest, .. } = chain {
         for link in rest.as_slice() {
-            let right = or_int(type_of(scopes, &link.right));
+            let right = or_int(value_type(scopes, &link.right));
             left = infix_type(link.op, left, right);
         }
     }
@@ -155,7 +155,7 @@ fn type_of_arg(scopes: &Scopes, arg: &Arg) -> Option<CType>
     match arg {
         Arg::Address { target, .. } => Some(entity_type(&entity_of(scopes, target))),
         Arg::Text { .. } => None,
-        Arg::Value(expr) => type_of(scopes, expr),
+        Arg::Value(expr) => value_type(scopes, expr),
     }
 }
 
@@ -170,9 +170,9 @@ fn first_type(scopes: &Scopes, args: &[Arg]) -> CType
     }
 }
 
-/// The type of an expression's value; none where it has no value.
+// The type of an expression's value; none where it has no value.
 #[cycle(types)]
-pub fn type_of(scopes: &Scopes, expr: &Expr) -> Option<CType>
+fn value_type(scopes: &Scopes, expr: &Expr) -> Option<CType>
     ensures { result ≡ (part_of expr.now).typed scopes.now }
 {
     match expr {
@@ -180,15 +180,15 @@ pub fn type_of(scopes: &Scopes, expr: &Expr) -> Option<CType>
             Some(entity_type(&entity_of(scopes, target)))
         }
         Expr::Cond { yes, no, .. } => {
-            let one = type_of(scopes, yes.get());
-            branches_type(one, type_of(scopes, no.get()))
+            let one = value_type(scopes, yes.get());
+            branches_type(one, value_type(scopes, no.get()))
         }
         Expr::Chain { first, .. } => {
-            let left = or_int(type_of(scopes, first.get()));
+            let left = or_int(value_type(scopes, first.get()));
             Some(links_type(scopes, left, expr))
         }
         Expr::Prefix { op, inner, .. } => {
-            Some(prefix_type(*op, or_int(type_of(scopes, inner.get()))))
+            Some(prefix_type(*op, or_int(value_type(scopes, inner.get()))))
         }
         Expr::Cast { to, .. } => cast_type(*to),
         Expr::Call { word, args } => {
@@ -196,6 +196,14 @@ pub fn type_of(scopes: &Scopes, expr: &Expr) -> Option<CType>
             call_type(&scopes.denoted(word.name.as_slice()), object)
         }
         Expr::Literal { value, .. } => Some(value.ctype()),
-        Expr::Paren { inner, .. } => type_of(scopes, inner.get()),
+        Expr::Paren { inner, .. } => value_type(scopes, inner.get()),
     }
+}
+
+/// The type of an expression's value; none where it has no value. The checks and the code have the same.
+pub fn type_of(scopes: &Scopes, expr: &Expr) -> Option<CType>
+    ensures typed { result ≡ (part_of expr.now).typed scopes.now }
+    ensures checked { result ≡ spec.type_of scopes.now expr.now }
+{
+    value_type(scopes, expr)
 }

@@ -8,8 +8,8 @@ use Rattle.c11_pieces.specs.Trees.{linked_of}
 use Rattle.c11_pieces.proofs.Parts.{part_chain, chain_links}
 use Rattle.c11_pieces.proofs.types.+types.Goals as goal
 
-pub type_of-returns-in-Chain : goal.type_of-returns-in-Chain
-type_of-returns-in-Chain t c =
+pub value_type-returns-in-Chain : goal.value_type-returns-in-Chain
+value_type-returns-in-Chain t c =
     let s = c.args.scopes.now in
     let first = c.in-Chain.first in
     let left : c.or_int-left.result ≡ or_int ((part_of first).typed s) = search rules in
