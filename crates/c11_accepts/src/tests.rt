@@ -554,8 +554,12 @@ fn there_is_a_main(rt: HostRuntime) -> Result<(), Fail> {
 // What is no program, and what is none before that.
 #[test]
 fn texts_without_a_program_are_refused(rt: HostRuntime) -> Result<(), Fail> {
-    let rows: [(&str, &str); 12] = [
+    let rows: [(&str, &str); 13] = [
         ("byte", "int x; @$"),
+        (
+            "literal",
+            "int main(void) { return @5000000000000000000000; }",
+        ),
         ("literal", "int x = @18446744073709551616u;\n$"),
         ("literal", "int f(void) { return @\"a; }"),
         ("comment", "int x;\n  @/* $"),
@@ -595,5 +599,26 @@ fn a_text_may_have_so_many_bytes(rt: HostRuntime) -> Result<(), Fail> {
         return Err(Fail::new("it is not refused"));
     };
     assert!(rt; found.word == RefusalWord::Long && found.place.is_none());
+    Ok(())
+}
+
+// A program, and line feeds up to so many bytes.
+fn padded(alloc: Global, program: &str, bytes: usize) -> Result<Vec<u8>, AllocError> {
+    let mut text = Vec::new(alloc);
+    text.extend_from_slice(program.as_bytes())?;
+    for _ in program.len()..bytes {
+        text.push(b'\n')?;
+    }
+    Ok(text)
+}
+
+#[test]
+fn a_program_of_as_many_bytes_as_a_text_may_have_is_accepted(rt: HostRuntime) -> Result<(), Fail> {
+    let text = padded(rt.alloc(), "int main(void){}", 65_536)?;
+    assert_eq!(rt; text.len(), 65_536);
+    let Ok(checked) = accept(rt.alloc(), text.as_slice()) else {
+        return Err(Fail::new("it is refused"));
+    };
+    assert_eq!(rt; checked.function_count(), 1);
     Ok(())
 }
