@@ -41,6 +41,7 @@ fn branches_from(scopes: &Scopes, place: usize, yes: &Expr, no: &Expr) -> Result
     ensures end { IfOk result (λ b. b.end ≡ b.other + (spec.branch b.ctype (part_of no.now) scopes.now).size) }
 {
     let ctype = branches_type(type_of(scopes, yes), type_of(scopes, no));
+    // Two jumps stand before the other branch.
     let other = plus(plus(place, branch_size(scopes, ctype, yes)?)?, 2)?;
     let end = plus(other, branch_size(scopes, ctype, no)?)?;
     Ok(Branches { ctype, other, end })
@@ -199,6 +200,7 @@ fn emit_link(code: &mut Vec<Instr>, scopes: &Scopes, link: &Link) -> Result<(), 
             Ok(())
         }
         Infix::Both => {
+            // Before the constant stand two jumps, and the operand with its truth.
             let other = plus(code.len(), plus(expr_size(scopes, &link.right)?, 3)?)?;
             let end = plus(other, 1)?;
             put(code, Instr::JumpIfZero(other))?;
@@ -208,6 +210,7 @@ fn emit_link(code: &mut Vec<Instr>, scopes: &Scopes, link: &Link) -> Result<(), 
             Ok(())
         }
         Infix::Either => {
+            // Before the operand stand two jumps and the constant; its truth is behind it.
             let other = plus(code.len(), 3)?;
             let end = plus(other, plus(expr_size(scopes, &link.right)?, 1)?)?;
             put(code, Instr::JumpIfZero(other))?;
@@ -449,7 +452,8 @@ fn emit(code: &mut Vec<Instr>, scopes: &Scopes, expr: &Expr) -> Result<(), NoMem
     }
 }
 
-/// Writes the code of an expression, which leaves its value on the stack, behind what is there. `NoMemory` where memory runs out.
+/// Writes the code of an expression, which leaves its value on the stack, behind what is there. `NoMemory` where memory runs out;
+/// the code is then unfinished.
 pub fn emit_expr(code: &mut Vec<Instr>, scopes: &Scopes, expr: &Expr) -> Result<(), NoMemory>
     ensures { OnOk result (code.new.items ≡ code.old.items ++ (piece_of expr.now scopes.now).code (length code.old.items)) }
 {

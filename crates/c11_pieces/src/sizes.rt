@@ -56,6 +56,7 @@ fn link_size(scopes: &Scopes, link: &Link) -> Result<usize, NoMemory>
     let size = expr_size(scopes, &link.right)?;
     match link.op {
         Infix::Number(_) => plus(size, 1),
+        // Two jumps, a constant, and the truth of the operand.
         Infix::Both | Infix::Either => plus(size, 4),
     }
 }
@@ -216,6 +217,7 @@ pub fn expr_size(scopes: &Scopes, expr: &Expr) -> Result<usize, NoMemory>
             let test = expr_size(scopes, test.get())?;
             let one = branch_size(scopes, ctype, yes.get())?;
             let another = branch_size(scopes, ctype, no.get())?;
+            // Two jumps go with the branches.
             plus(test, plus(plus(one, another)?, 2)?)
         }
         Expr::Chain { first, .. } => {
