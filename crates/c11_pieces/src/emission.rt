@@ -21,7 +21,7 @@ use crate::library::{fits, put_library};
 use crate::objects::{element_instr, entity_base, entity_size};
 use crate::sizes::{branch_size, expr_size};
 use crate::types::{branches_type, type_of};
-use c11_ast::{Arg, CastTo, Expr, Infix, Link, Target, Word};
+use c11_ast::{Arg, Expr, Infix, Link, Target, Word};
 use c11_check::scopes::Scopes;
 use c11_check::{Entity, Library};
 use c11_flat::{Instr, Place, Storage};

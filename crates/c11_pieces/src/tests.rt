@@ -2,8 +2,8 @@ ghost use Rattle.std.specs.Prelude.{◌<◌};
 
 use crate::{emit_expr, expr_size, type_of};
 use c11_ast::{Boxed, CastTo, Expr, Infix, Link, Many, Spot, Target, Word, boxed_expr};
+use c11_check::Entity;
 use c11_check::scopes::Scopes;
-use c11_check::{Counts, Entity};
 use c11_events::Order;
 use c11_flat::{Instr, Place, Storage};
 use c11_num::{BinaryOp, CType, Name, NoMemory};
