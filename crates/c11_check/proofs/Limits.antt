@@ -148,7 +148,7 @@ items_grow : (items : List Item) (d : Declared) → d.scope.counts.functions ≤
 items_grow [] d = omega arith
 items_grow (i ∷ items) d = let one = item_grows i d in let rest = items_grow items (declare_item i d) in omega (arith, one, rest)
 
-some_number : (a b : ℕ) → Some a ≡ Some b → a ≡ b
+pub some_number : (a b : ℕ) → Some a ≡ Some b → a ≡ b
 some_number a b e = ap (λ (o : Option ℕ). unwrap_or o 0) e
 
 main_here : (f : Function) (items : List Item) (d : Declared) (m : ℕ) (here : Bool) → is_main_function f ≡ here → (declare_function f d).scope.counts.functions ≡ d.scope.counts.functions + 1

@@ -1,8 +1,9 @@
 -- In a program without a fault names lie within the tables.
 use Rattle.std.proofs.Common.{◌≡◌, ℕ, zero, suc, ◌+◌, ◌<◌, ◌≤◌, Bool, true, false, List, [], ◌∷◌, ◌++◌, length, Option, Some, None, refl, sym, ap, ◌∙◌, subst, append_assoc, length-append, arith, true≢false}
-use Rattle.std.specs.Prelude.{⊤, slice_get, if◌then◌else◌, is_none, ◌&&◌, ◌||◌, ◌==◌, nat_lt, ◌^◌}
+use Rattle.std.specs.Prelude.{⊤, codes, slice_get, if◌then◌else◌, is_none, ◌&&◌, ◌||◌, ◌==◌, nat_lt, ◌^◌}
 use Rattle.std.specs.Str.{bytes_eq}
 use Rattle.std.proofs.lemmas.List.{append-nil}
+use Rattle.std.proofs.lemmas.Bool.Decides.{nat_tests}
 use Rattle.c11_num.specs.Ranges.{TypedNumber}
 use Rattle.c11_num.specs.Wrapping.{wrapped}
 use Rattle.c11_num.specs.declared.value.CType.{CType}
@@ -30,12 +31,12 @@ use Rattle.c11_check.specs.declared.fault.Rule.TheVariants as rule
 use Rattle.c11_check.specs.declared.fault.Fault.{Fault}
 use Rattle.c11_check.specs.Library.{Table, or_else, look_up, transfers, fetches, exchanges, threads, constants, orders, library_entity, constant_value}
 use Rattle.c11_check.specs.Scopes.{Named, Scope, denoted, entity_value, known_value, signed_value, with_sign, value_of_constant, elements, size_in, taken, passes, with_global, with_function, signature_of, entered_function, left_for, file_scope, atomic_limit, plain_limit, mutex_limit, function_limit}
-use Rattle.c11_check.specs.Faults.{when, unknown, twice, is_misconstant, misconstant, is_missized, size_value, missized, too_many}
+use Rattle.c11_check.specs.Faults.{when, answers_int, unknown, twice, is_misconstant, misconstant, is_missized, size_value, missized, too_many}
 use Rattle.c11_check.specs.Statements.{walk_of_block, size_faults}
-use Rattle.c11_check.specs.Programs.{HasNoFault, limit_of, count_of, no_main, starts_of, starts_faults, var_faults, var_walk, vars_walk, params_walk, function_walk, item_walk, items_walk}
-use Rattle.c11_check.specs.Tables.{Tables, Declared, start_value, converted_or_zero, element_cells, object_cells, declare_var, declare_vars, declare_function, declare_item, declare_items, nothing_declared, tables_of}
-use Rattle.c11_check.specs.Lies.{signatures_in, HasCells, LiesIn, FaultlessLiesWithin}
-use Rattle.c11_check.proofs.Limits.{Counted, object_count, counted_var, counted_vars, counted_item, vars_functions, next_count}
+use Rattle.c11_check.specs.Programs.{HasNoFault, is_main_function, limit_of, count_of, no_main, starts_of, starts_faults, var_faults, var_walk, vars_walk, params_walk, function_walk, item_walk, items_walk}
+use Rattle.c11_check.specs.Tables.{Tables, Declared, start_value, converted_or_zero, element_cells, object_cells, declare_var, declare_vars, declare_function, declare_item, declare_items, nothing_declared, tables_of, main_from, main_of}
+use Rattle.c11_check.specs.Lies.{signatures_in, HasCells, LiesIn, IsMainAt, FaultlessLiesWithin}
+use Rattle.c11_check.proofs.Limits.{Counted, object_count, counted_var, counted_vars, counted_item, vars_functions, next_count, some_number}
 use Rattle.c11_check.proofs.Grown.{AllDenoted, all_declared, Lies, lies_declared, lies_named, grew_on, grew_params, names_left, some_entity, stmt_declares, block_declares}
 
 -- ---- lists of faults
@@ -440,8 +441,50 @@ pub reached_in : (program : Program) → length program.items < 2 ^ 32 → HasNo
 reached_in program few clean before after is = reached (tables_of program) (signatures_in program.items) before after nothing_declared 0
     (subst (At (tables_of program) (signatures_in program.items) nothing_declared 0) is (at_first program few clean))
 
+-- ---- `main`
+
+pub record MainFound (n : ℕ) (items : List Item) (m : ℕ) : Type 0 where
+  pub place : ℕ
+  pub function : Function
+  pub at : m ≡ n + place
+  pub there : slice_get (signatures_in items) place ≡ Some (signature_of function)
+  pub is : is_main_function function ≡ true
+
+main_later : (n : ℕ) (f : Function) (items : List Item) (m : ℕ) → MainFound (n + 1) items m → MainFound n (item.Function f ∷ items) m
+main_later n f items m found = record { place = suc found.place; function = found.function; at = let e = found.at in omega (arith, e); there = found.there; is = found.is }
+
+main_first : (n : ℕ) (f : Function) (items : List Item) (m : ℕ) (here : Bool) → is_main_function f ≡ here → (if here then Some n else main_from (n + 1) items) ≡ Some m → (main_from (n + 1) items ≡ Some m → MainFound (n + 1) items m)
+    → MainFound n (item.Function f ∷ items) m
+main_first n f items m true is e rest = record { place = 0; function = f; at = let same = some_number n m e in omega (arith, same); there = refl; is = is }
+main_first n f items m false is e rest = main_later n f items m (rest e)
+
+main_found : (n : ℕ) (items : List Item) (m : ℕ) → main_from n items ≡ Some m → MainFound n items m
+main_found n [] m e = absurd cc
+main_found n (item.Include spot ∷ items) m e = let found = main_found n items m e in record { place = found.place; function = found.function; at = found.at; there = found.there; is = found.is }
+main_found n (item.Define spot word value ∷ items) m e = let found = main_found n items m e in record { place = found.place; function = found.function; at = found.at; there = found.there; is = found.is }
+main_found n (item.Global spot kind vars ∷ items) m e = let found = main_found n items m e in record { place = found.place; function = found.function; at = found.at; there = found.there; is = found.is }
+main_found n (item.Function f ∷ items) m e = main_first n f items m (is_main_function f) refl e (λ more. main_found (n + 1) items m more)
+
+none_params : (n : ℕ) → (n == 0) ≡ true → n ≡ 0
+none_params n is = grind (arith, nat_tests, is)
+
+main_is : (f : Function) → is_main_function f ≡ true → (answers_int f.answers ≡ true) × (length f.params ≡ 0)
+main_is f is =
+    let rest = (both_true (bytes_eq f.word.name (codes "main")) (answers_int f.answers && (length f.params == 0)) is).1 in
+    let both = both_true (answers_int f.answers) (length f.params == 0) rest in (both.0, none_params (length f.params) both.1)
+
+main_at : (program : Program) (m : ℕ) → main_of program ≡ Some m → IsMainAt (signatures_in program.items) m
+main_at program m e = let found = main_found 0 program.items m e in let same : m ≡ found.place = (let a = found.at in omega (arith, a)) in
+    (signature_of found.function, (ap (slice_get (signatures_in program.items)) same ∙ found.there, main_is found.function found.is))
+
+all_counted : (program : Program) → length program.items < 2 ^ 32 → HasNoFault program → length (tables_of program).functions ≡ length (signatures_in program.items)
+all_counted program few clean = let r = reached_in program few clean program.items [] (sym (append-nil program.items)) in
+    let a = r.at.counted.functions in let b = r.at.number in let c = ap length r.at.signatures in let d = length-append r.at.earlier [] in omega (arith, a, b, c, d)
+
 pub faultless_lies_within : FaultlessLiesWithin
 faultless_lies_within program few clean = let t = tables_of program in let fs = signatures_in program.items in record {
+  count = all_counted program few clean;
+  main = main_at program;
   items = λ before after is. let r = reached_in program few clean before after is in lies_named t fs (declare_items before nothing_declared).scope (items_walk before file_scope).scope (ap (λ (s : Scope). s.names) r.scope) r.at.lies;
   functions = λ before after f is. let r = reached_in program few clean before (item.Function f ∷ after) is in
       let s = (items_walk before file_scope).scope in

@@ -1,5 +1,5 @@
 -- What names denote lies within the tables of their program.
-use Rattle.std.specs.Prelude.{◌≡◌, ℕ, ◌+◌, ◌<◌, ◌≤◌, ◌^◌, ⊤, List, [], ◌∷◌, ◌++◌, length, Some, slice_get}
+use Rattle.std.specs.Prelude.{◌≡◌, ℕ, ◌+◌, ◌<◌, ◌≤◌, ◌^◌, ⊤, true, List, [], ◌∷◌, ◌++◌, length, Some, slice_get}
 use Rattle.c11_num.specs.declared.value.CType.{CType}
 use Rattle.c11_ast.specs.declared.item.Item.{Item}
 use Rattle.c11_ast.specs.declared.item.Item.TheVariants as item
@@ -13,8 +13,9 @@ use Rattle.c11_check.specs.declared.entity.Entity.TheVariants as e
 use Rattle.c11_check.specs.declared.entity.Signature.{Signature}
 use Rattle.c11_check.specs.Scopes.{Scope, denoted, taken, signature_of, with_function, entered_function, file_scope}
 use Rattle.c11_check.specs.Statements.{walk_of}
+use Rattle.c11_check.specs.Faults.{answers_int}
 use Rattle.c11_check.specs.Programs.{HasNoFault, items_walk, params_walk}
-use Rattle.c11_check.specs.Tables.{Tables, tables_of}
+use Rattle.c11_check.specs.Tables.{Tables, tables_of, main_of}
 
 -- the signatures of the functions, in the order of their numbers
 abbrev pub signatures_in : List Item → List Signature
@@ -46,8 +47,14 @@ LiesIn t fs (e.Order order) = ⊤
 abbrev pub LiesWithin : Program → Scope → Type 0
 LiesWithin program scope = (name : List ℕ) (entity : Entity) → denoted scope name ≡ Some entity → LiesIn (tables_of program) (signatures_in program.items) entity
 
--- the names lie within the tables before each item, where the block of each function begins, and behind each statement if they do before it
+-- the function with this number answers `int` and has no parameters
+abbrev pub IsMainAt : List Signature → ℕ → Type 0
+IsMainAt functions m = (signature : Signature) × ((slice_get functions m ≡ Some signature) × ((answers_int signature.answers ≡ true) × (signature.params ≡ 0)))
+
+-- There are as many functions in the tables as signatures, and `main` is one of them; the names lie within the tables before each item, where the block of each function begins, and behind each statement if they do before it
 pub record NamesLieWithin (program : Program) : Type 0 where
+  pub count : length (tables_of program).functions ≡ length (signatures_in program.items)
+  pub main : (m : ℕ) → main_of program ≡ Some m → IsMainAt (signatures_in program.items) m
   pub items : (before after : List Item) → program.items ≡ before ++ after → LiesWithin program (items_walk before file_scope).scope
   pub functions : (before after : List Item) (f : Function) → program.items ≡ before ++ item.Function f ∷ after
       → LiesWithin program (params_walk f.params (entered_function (with_function (items_walk before file_scope).scope f))).scope
