@@ -1,3 +1,4 @@
+use crate::Thread;
 use crate::machine::Machine;
 use crate::step::Step;
 use c11_events::{Ask, Op, Order, Reply};
@@ -390,5 +391,28 @@ fn a_reply_of_another_kind_has_no_answer(rt: HostRuntime) -> Result<(), Fail> {
     let mut machine = begun(alloc, &code, 0)?;
     machine.pending = Some(Reply::Done);
     assert!(rt; wants(alloc, &mut machine, &code, "none")?);
+    Ok(())
+}
+
+fn shows(alloc: Global, ask: &Ask, text: &str) -> Result<bool, NoMemory> {
+    let shown = format!(in alloc; "{ask:?}")?;
+    Ok(shown.as_str() == text)
+}
+
+#[test]
+fn a_thread_wants_to_begin_until_it_has_its_reply(rt: HostRuntime) -> Result<(), Fail> {
+    let alloc = rt.alloc();
+    let instrs = vec![in alloc; push(5), Instr::Return { line: 4 }]?;
+    let code = one_function(alloc, instrs, 0)?;
+    let mut thread = Thread::start(alloc, 3);
+    let first = thread.advance(&code)?;
+    assert!(rt; shows(alloc, &first, "Ask { line: 0, op: Begin }")?);
+    let second = thread.advance(&code)?;
+    assert!(rt; shows(alloc, &second, "Ask { line: 0, op: Begin }")?);
+    thread.give(&Reply::Began {
+        function: 0,
+        argument: 0,
+    });
+    assert_eq!(rt; thread.number(), 3);
     Ok(())
 }
