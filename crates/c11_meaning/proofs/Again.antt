@@ -20,8 +20,8 @@ use Rattle.c11_check.proofs.Grown.{Lies}
 use Rattle.c11_meaning.specs.Outcome.{State, Outcome, Gives, Wants, Over, and_then, ask_at, with_reply, operation, left, turn_limit}
 use Rattle.c11_meaning.specs.Expressions.{Calls}
 use Rattle.c11_meaning.specs.Asks.{Runnable, functions_from, functions_of, first_locals, body_from, called, calls_of, more_frames, end_line, end_value, thread_of, begun, wanted}
-use Rattle.c11_meaning.specs.Progress.{IsReplyTo, AsksAgain}
-use Rattle.c11_meaning.proofs.Awaiting.{with_more, Below, Awaits, Beside, Runs, Goes, below_bind, awaits_bind, beside_bind, runs_bind, runs_stop, runs_counted, runs_operation}
+use Rattle.c11_meaning.specs.Progress.{IsReplyTo, Ends, AsksAgain, AsksNoMore}
+use Rattle.c11_meaning.proofs.Awaiting.{with_more, Below, Awaits, IsOver, Beside, Runs, Goes, below_bind, awaits_bind, beside_bind, runs_bind, runs_stop, runs_counted, runs_operation}
 use Rattle.c11_meaning.proofs.Going.{CallsRun}
 use Rattle.c11_meaning.proofs.Flowing.{block_goes}
 use Rattle.c11_meaning.proofs.Threads.{FunctionFine, all_fine, world_of}
@@ -94,7 +94,7 @@ module _ (t : Tables) (fs : List Signature) (functions : List Runnable)
       runs_counted fs line _ (runs_called (slice_get functions function) found.0 values (calls_of functions room) found.1 (runs_calls room) (lies function found.0 found.1))
 
   goes_end : (value : ℤ) → Goes fs {A = TypedNumber} (op.End value) (λ r st. Over)
-  goes_end value = record { less = λ r st. Below.over; more = λ x r st. Beside.over; fits = λ r st is none. absurd is }
+  goes_end value = record { less = λ r st. Below.over; more = λ x r st. Beside.over; fits = λ r st is none. absurd is; ends = λ r st is. IsOver.over }
 
   runs_thread : (r : Runnable) (argument : ℤ) → Lies t fs r.scope → Runs fs (thread_of functions (Some r) argument)
   runs_thread r argument within = runs_bind fs (runs_body r (record { ctype = Long; number = argument } ∷ []) (calls_of functions more_frames) (runs_calls more_frames) within) (λ flow.
@@ -126,8 +126,18 @@ module _ (t : Tables) (fs : List Signature) (functions : List Runnable)
   begun_awaits (reply.Joined v) st is none = absurd is
   begun_awaits (reply.Fault fault) st is none = absurd is
 
+  begun_ends : (r : Reply) (st : State) → Ends op.Begin r → IsOver fs (begun functions r st)
+  begun_ends (reply.Fault fault) st is = IsOver.over
+  begun_ends (reply.Began function argument) st is = absurd is
+  begun_ends reply.Done st is = absurd is
+  begun_ends (reply.Value v) st is = absurd is
+  begun_ends (reply.Exchanged old success) st is = absurd is
+  begun_ends (reply.Locked mine) st is = absurd is
+  begun_ends (reply.Created thread) st is = absurd is
+  begun_ends (reply.Joined v) st is = absurd is
+
   goes_begun : Goes fs op.Begin (begun functions)
-  goes_begun = record { less = λ r st. (begun_by r r st).0; more = λ x r st. (begun_by r x st).1; fits = begun_awaits }
+  goes_begun = record { less = λ r st. (begun_by r r st).0; more = λ x r st. (begun_by r x st).1; fits = begun_awaits; ends = begun_ends }
 
   -- ---- one reply more
 
@@ -139,7 +149,7 @@ module _ (t : Tables) (fs : List Signature) (functions : List Runnable)
       gives_none a st s = elim s [ ]
 
   one_more : (o o' : Outcome TypedNumber) (x : Reply) (ask : Ask) → Beside fs x o o' → wanted o ≡ Some ask → IsReplyTo fs ask.op x → Silent o' → (next : Ask) × (wanted o' ≡ Some next)
-  one_more _ o' x ask (Beside.wants {ask = a} fits) is kind silent = wanted_again o' (fits (subst (λ (b : Ask). IsReplyTo fs b.op x) (sym (ap (λ (o : Option Ask). unwrap_or o a) is)) kind)) silent
+  one_more _ o' x ask (Beside.wants {ask = a} fits ends) is kind silent = wanted_again o' (fits (subst (λ (b : Ask). IsReplyTo fs b.op x) (sym (ap (λ (o : Option Ask). unwrap_or o a) is)) kind)) silent
   one_more _ _ x ask (Beside.gives) is kind silent = absurd (no_ask ask is)
     where
       no_ask : (ask : Ask) → None ≡ Some ask → ⊥
@@ -149,15 +159,43 @@ module _ (t : Tables) (fs : List Signature) (functions : List Runnable)
       no_ask : (ask : Ask) → None ≡ Some ask → ⊥
       no_ask ask is = cc
 
+  no_more : (o o' : Outcome TypedNumber) (x : Reply) (ask : Ask) → Beside fs x o o' → wanted o ≡ Some ask → Ends ask.op x → wanted o' ≡ None
+  no_more _ o' x ask (Beside.wants {ask = a} fits ends) is last = over_none o' (ends (subst (λ (b : Ask). Ends b.op x) (sym (ap (λ (o : Option Ask). unwrap_or o a) is)) last))
+    where
+      over_none : (o : Outcome TypedNumber) → IsOver fs o → wanted o ≡ None
+      over_none _ IsOver.over = refl
+  no_more _ _ x ask (Beside.gives) is last = absurd (no_ask ask is)
+    where
+      no_ask : (ask : Ask) → None ≡ Some ask → ⊥
+      no_ask ask is = cc
+  no_more _ o' x ask Beside.over is last = absurd (no_ask ask is)
+    where
+      no_ask : (ask : Ask) → None ≡ Some ask → ⊥
+      no_ask ask is = cc
+
 function_at : (program : Program) → length program.items < 2 ^ 32 → HasNoFault program → (n : ℕ) (r : Runnable) → slice_get (functions_of program) n ≡ Some r → FunctionFine (world_of program []) r
 function_at program few clean n r is = all_fine program [] few clean n r is
 
+-- where what is named lies
+abbrev LiesAt : Program → Type 0
+LiesAt program = (n : ℕ) (r : Runnable) → slice_get (functions_of program) n ≡ Some r → Lies (tables_of program) (signatures_in program.items) r.scope
+
+lies_at : (program : Program) → length program.items < 2 ^ 32 → HasNoFault program → LiesAt program
+lies_at program few clean n r is = ((function_at program few clean n r is).knows (λ line function values st. Over)).lies
+
+-- what a further reply makes of what a thread wants
+beside_begun : (program : Program) (replies : List Reply) (x : Reply) → length program.items < 2 ^ 32 → HasNoFault program → let st : State = record { locals = []; replies = replies; turns = turn_limit } in
+    Beside (signatures_in program.items) x (operation 0 op.Begin st (begun (functions_of program))) (operation 0 op.Begin (with_more x st) (begun (functions_of program)))
+beside_begun program replies x few clean = let fs = signatures_in program.items in
+    (runs_operation fs 0 (λ locals. op.Begin) (λ locals. begun (functions_of program)) (λ locals. goes_begun (tables_of program) fs (functions_of program) (functions_there program.items file_scope) (lies_at program few clean))).more x
+    (record { locals = []; replies = replies; turns = turn_limit })
+
 pub asks_again : AsksAgain
-asks_again program replies ask x few clean is kind =
-    let t = tables_of program in let fs = signatures_in program.items in let functions = functions_of program in
-    let there = functions_there program.items file_scope in
-    let lies : (n : ℕ) (r : Runnable) → slice_get functions n ≡ Some r → Lies t fs r.scope = λ n r is. ((function_at program few clean n r is).knows (λ line function values st. Over)).lies in
-    let st : State = record { locals = []; replies = replies; turns = turn_limit } in
-    one_more t fs functions there lies (operation 0 op.Begin st (begun functions)) (operation 0 op.Begin (with_more x st) (begun functions)) x ask
-    ((runs_operation fs 0 (λ locals. op.Begin) (λ locals. begun functions) (λ locals. goes_begun t fs functions there lies)).more x st) is kind
-    (silent_asks (ask_at 0 op.Begin) [] (replies ++ x ∷ []) (begun functions) (silent_begun functions))
+asks_again program replies ask x few clean is kind = let st : State = record { locals = []; replies = replies; turns = turn_limit } in let functions = functions_of program in
+    one_more (tables_of program) (signatures_in program.items) functions (functions_there program.items file_scope) (lies_at program few clean) (operation 0 op.Begin st (begun functions)) (operation 0 op.Begin (with_more x st) (begun functions)) x ask
+    (beside_begun program replies x few clean) is kind (silent_asks (ask_at 0 op.Begin) [] (replies ++ x ∷ []) (begun functions) (silent_begun functions))
+
+pub asks_no_more : AsksNoMore
+asks_no_more program replies ask x few clean is last = let st : State = record { locals = []; replies = replies; turns = turn_limit } in let functions = functions_of program in
+    no_more (tables_of program) (signatures_in program.items) functions (functions_there program.items file_scope) (lies_at program few clean) (operation 0 op.Begin st (begun functions)) (operation 0 op.Begin (with_more x st) (begun functions)) x ask
+    (beside_begun program replies x few clean) is last

@@ -12,7 +12,7 @@ use Rattle.c11_events.specs.declared.reply.Reply.{Reply}
 use Rattle.c11_events.specs.declared.reply.Reply.TheVariants as reply
 use Rattle.c11_check.specs.declared.entity.Signature.{Signature}
 use Rattle.c11_meaning.specs.Outcome.{State, Outcome, Gives, Wants, Over, and_then, ask_at, with_reply, operation, told, when_done, stop, stop_of, computed, counting, counted, left, turn_limit}
-use Rattle.c11_meaning.specs.Progress.{IsDone, IsValue, IsReplyTo}
+use Rattle.c11_meaning.specs.Progress.{IsDone, IsValue, IsFault, Ends, IsReplyTo}
 
 -- the state, with a further reply left
 abbrev pub with_more : Reply → State → State
@@ -30,10 +30,14 @@ module _ (fs : List Signature) where
     gives : {a : A} {st : State} → st.replies ≡ [] → Awaits (Gives a st)
     wants : {ask : Ask} → Awaits (Wants ask)
 
+  -- it has ended
+  pub data IsOver {A : Type 0} : Outcome A → Type 0 where
+    over : IsOver Over
+
   -- the outcomes without and with the further reply
   pub data Beside {A : Type 0} (x : Reply) : Outcome A → Outcome A → Type 0 where
     gives : {a : A} {st : State} → Beside x (Gives a st) (Gives a (with_more x st))
-    wants : {ask : Ask} {o : Outcome A} → (IsReplyTo fs ask.op x → Awaits o) → Beside x (Wants ask) o
+    wants : {ask : Ask} {o : Outcome A} → (IsReplyTo fs ask.op x → Awaits o) → (Ends ask.op x → IsOver o) → Beside x (Wants ask) o
     over : {o : Outcome A} → Beside x Over o
 
   pub record Runs {A : Type 0} (c : State → Outcome A) : Type 0 where
@@ -59,11 +63,15 @@ module _ (fs : List Signature) where
   awaits_bind (Awaits.gives {a = a} {st = st} is) rest = rest a st is
   awaits_bind Awaits.wants rest = Awaits.wants
 
+  pub over_bind : {A B : Type 0} {o : Outcome A} (f : A → State → Outcome B) → IsOver o → IsOver (and_then o f)
+  unfolding and_then
+  over_bind f IsOver.over = IsOver.over
+
   pub beside_bind : {A B : Type 0} {o o' : Outcome A} {f f' : A → State → Outcome B} (x : Reply) → Beside x o o' → ((a : A) (st : State) → o ≡ Gives a st → Beside x (f a st) (f' a (with_more x st))) → ((a : A) (st : State) → st.replies ≡ [] → Awaits (f' a st))
       → Beside x (and_then o f) (and_then o' f')
   unfolding and_then
   beside_bind x (Beside.gives {a = a} {st = st}) rest last = rest a st refl
-  beside_bind x (Beside.wants fits) rest last = Beside.wants (λ is. awaits_bind (fits is) last)
+  beside_bind x (Beside.wants fits ends) rest last = Beside.wants (λ is. awaits_bind (fits is) last) (λ is. over_bind _ (ends is))
   beside_bind x Beside.over rest last = Beside.over
 
   pub runs_bind : {A B : Type 0} {c : State → Outcome A} {f : A → State → Outcome B} → Runs c → ((a : A) → Runs (f a)) → Runs (λ st. and_then (c st) f)
@@ -87,6 +95,7 @@ module _ (fs : List Signature) where
     pub less : (r : Reply) (st : State) → Below (left st) (go r st)
     pub more : (x r : Reply) (st : State) → Beside x (go r st) (go r (with_more x st))
     pub fits : (r : Reply) (st : State) → IsReplyTo fs o r → st.replies ≡ [] → Awaits (go r st)
+    pub ends : (r : Reply) (st : State) → Ends o r → IsOver (go r st)
 
   asks_below : {A : Type 0} (ask : Ask) (locals : List ℤ) (replies : List Reply) (go : Reply → State → Outcome A) (n : ℕ) → length replies * turn_limit ≤ n → ((r : Reply) (st : State) → Below (left st) (go r st)) → Below n (with_reply ask locals replies go)
   unfolding with_reply
@@ -100,7 +109,7 @@ module _ (fs : List Signature) where
 
   asks_more : {A : Type 0} (x : Reply) (ask ask' : Ask) (locals : List ℤ) (replies : List Reply) (go : Reply → State → Outcome A) → Goes ask.op go → Beside x (with_reply ask locals replies go) (with_reply ask' locals (replies ++ x ∷ []) go)
   unfolding with_reply
-  asks_more x ask ask' locals [] go g = Beside.wants (λ is. g.fits x (record { locals = locals; replies = []; turns = turn_limit }) is refl)
+  asks_more x ask ask' locals [] go g = Beside.wants (λ is. g.fits x (record { locals = locals; replies = []; turns = turn_limit }) is refl) (λ is. g.ends x (record { locals = locals; replies = []; turns = turn_limit }) is)
   asks_more x ask ask' locals (r ∷ rs) go g = g.more x r (record { locals = locals; replies = rs; turns = turn_limit })
 
   -- the operation may depend on the locals
@@ -115,14 +124,24 @@ module _ (fs : List Signature) where
   nothing_follows r st = Over
 
   goes_stop : {A : Type 0} (k : StopKind) → Goes {A = A} (op.Stop k) nothing_follows
-  goes_stop k = record { less = λ r st. Below.over; more = λ x r st. Beside.over; fits = λ r st is none. absurd is }
+  goes_stop k = record { less = λ r st. Below.over; more = λ x r st. Beside.over; fits = λ r st is none. absurd is; ends = λ r st is. IsOver.over }
 
   pub runs_stop : {A : Type 0} (line : ℕ) (k : StopKind) → Runs (λ st. stop {A = A} line k st)
   runs_stop {A = A} line k = runs_operation line (λ locals. op.Stop k) (λ locals. nothing_follows {A = A}) (λ locals. goes_stop k)
 
-  pub goes_told : (o : Op) → ((r : Reply) → IsReplyTo fs o r → IsValue r) → Goes o told
-  goes_told o kind = record { less = less; more = more; fits = λ r st is none. fits r st (kind r is) none }
+  pub goes_told : (o : Op) → ((r : Reply) → IsReplyTo fs o r → IsValue r) → ((r : Reply) → Ends o r → IsFault r) → Goes o told
+  goes_told o kind fault = record { less = less; more = more; fits = λ r st is none. fits r st (kind r is) none; ends = λ r st is. ends r st (fault r is) }
     where
+      ends : (r : Reply) (st : State) → IsFault r → IsOver (told r st)
+      ends (reply.Fault f) st is = IsOver.over
+      ends (reply.Value v) st is = absurd is
+      ends reply.Done st is = absurd is
+      ends (reply.Exchanged old success) st is = absurd is
+      ends (reply.Locked mine) st is = absurd is
+      ends (reply.Created thread) st is = absurd is
+      ends (reply.Began function argument) st is = absurd is
+      ends (reply.Joined v) st is = absurd is
+
       less : (r : Reply) (st : State) → Below (left st) (told r st)
       less (reply.Value v) st = Below.gives (omega arith)
       less reply.Done st = Below.over
@@ -153,9 +172,19 @@ module _ (fs : List Signature) where
       fits (reply.Joined v) st is none = absurd is
       fits (reply.Fault fault) st is none = absurd is
 
-  pub goes_done : (o : Op) (value : TypedNumber) → ((r : Reply) → IsReplyTo fs o r → IsDone r) → Goes o (when_done value)
-  goes_done o value kind = record { less = less; more = more; fits = λ r st is none. fits r st (kind r is) none }
+  pub goes_done : (o : Op) (value : TypedNumber) → ((r : Reply) → IsReplyTo fs o r → IsDone r) → ((r : Reply) → Ends o r → IsFault r) → Goes o (when_done value)
+  goes_done o value kind fault = record { less = less; more = more; fits = λ r st is none. fits r st (kind r is) none; ends = λ r st is. ends r st (fault r is) }
     where
+      ends : (r : Reply) (st : State) → IsFault r → IsOver (when_done value r st)
+      ends (reply.Fault f) st is = IsOver.over
+      ends (reply.Value v) st is = absurd is
+      ends reply.Done st is = absurd is
+      ends (reply.Exchanged old success) st is = absurd is
+      ends (reply.Locked mine) st is = absurd is
+      ends (reply.Created thread) st is = absurd is
+      ends (reply.Began function argument) st is = absurd is
+      ends (reply.Joined v) st is = absurd is
+
       less : (r : Reply) (st : State) → Below (left st) (when_done value r st)
       less reply.Done st = Below.gives (omega arith)
       less (reply.Value v) st = Below.over

@@ -35,16 +35,26 @@ use Rattle.c11_meaning.specs.Expressions.{Calls, Valuing, located, cast}
 use Rattle.c11_meaning.specs.Library.{value_given, loading, object_value, storing, modifying, exchanged, comparing, zero_number, when_locked, tried, created, creating, joined, answer_place, handle_read, thread_of, joining, asserting, values_given, printing, library_call, call}
 use Rattle.c11_meaning.specs.Prints.{printed}
 use Rattle.c11_meaning.specs.Evaluation.{value_step, part_of}
-use Rattle.c11_meaning.specs.Progress.{IsReplyTo, IsExchanged, IsLocked, IsTried, IsCreated, IsJoined}
-use Rattle.c11_meaning.proofs.Awaiting.{with_more, Below, Awaits, Beside, Runs, Goes, runs_bind, runs_gives, runs_if, runs_operation, runs_stop, goes_told, goes_done}
+use Rattle.c11_meaning.specs.Progress.{IsReplyTo, Ends, IsFault, IsExchanged, IsLocked, IsTried, IsCreated, IsJoined}
+use Rattle.c11_meaning.proofs.Awaiting.{with_more, Below, Awaits, IsOver, Beside, Runs, Goes, runs_bind, runs_gives, runs_if, runs_operation, runs_stop, goes_told, goes_done}
 use Rattle.c11_meaning.proofs.Going.{CallsRun, ValueRuns, ObjectRuns, named, indexed, MayRun, PartRuns, GivenRuns, LinkRuns, linked, AllRun, AllLinks, runs_located, runs_reading, runs_assigning, runs_stepping, runs_prefixed, runs_condition, runs_chained}
 
 module _ (fs : List Signature) where
   -- ---- behind operations
 
-  goes_exchanged : (o : Op) (place : ℕ) → ((r : Reply) → IsReplyTo fs o r → IsExchanged r) → Goes fs o (exchanged place)
-  goes_exchanged o place kind = record { less = less; more = more; fits = λ r st is none. fits r st (kind r is) none }
+  goes_exchanged : (o : Op) (place : ℕ) → ((r : Reply) → IsReplyTo fs o r → IsExchanged r) → ((r : Reply) → Ends o r → IsFault r) → Goes fs o (exchanged place)
+  goes_exchanged o place kind fault = record { less = less; more = more; fits = λ r st is none. fits r st (kind r is) none; ends = λ r st is. ends r st (fault r is) }
     where
+      ends : (r : Reply) (st : State) → IsFault r → IsOver fs (exchanged place r st)
+      ends (reply.Fault f) st is = IsOver.over
+      ends (reply.Value v) st is = absurd is
+      ends reply.Done st is = absurd is
+      ends (reply.Exchanged old success) st is = absurd is
+      ends (reply.Locked mine) st is = absurd is
+      ends (reply.Created thread) st is = absurd is
+      ends (reply.Began function argument) st is = absurd is
+      ends (reply.Joined v) st is = absurd is
+
       less : (r : Reply) (st : State) → Below fs (left st) (exchanged place r st)
       less (reply.Exchanged old true) st = Below.gives (omega arith)
       less (reply.Exchanged old false) st = Below.gives (omega arith)
@@ -78,9 +88,19 @@ module _ (fs : List Signature) where
       fits (reply.Joined v) st is none = absurd is
       fits (reply.Fault fault) st is none = absurd is
 
-  goes_locked : (o : Op) → ((r : Reply) → IsReplyTo fs o r → IsLocked r) → Goes fs o when_locked
-  goes_locked o kind = record { less = less; more = more; fits = λ r st is none. fits r st (kind r is) none }
+  goes_locked : (o : Op) → ((r : Reply) → IsReplyTo fs o r → IsLocked r) → ((r : Reply) → Ends o r → IsFault r) → Goes fs o when_locked
+  goes_locked o kind fault = record { less = less; more = more; fits = λ r st is none. fits r st (kind r is) none; ends = λ r st is. ends r st (fault r is) }
     where
+      ends : (r : Reply) (st : State) → IsFault r → IsOver fs (when_locked r st)
+      ends (reply.Fault f) st is = IsOver.over
+      ends (reply.Value v) st is = absurd is
+      ends reply.Done st is = absurd is
+      ends (reply.Exchanged old success) st is = absurd is
+      ends (reply.Locked mine) st is = absurd is
+      ends (reply.Created thread) st is = absurd is
+      ends (reply.Began function argument) st is = absurd is
+      ends (reply.Joined v) st is = absurd is
+
       less : (r : Reply) (st : State) → Below fs (left st) (when_locked r st)
       less (reply.Locked true) st = Below.gives (omega arith)
       less (reply.Locked false) st = Below.over
@@ -114,9 +134,19 @@ module _ (fs : List Signature) where
       fits (reply.Joined v) st is none = absurd is
       fits (reply.Fault fault) st is none = absurd is
 
-  goes_tried : (o : Op) → ((r : Reply) → IsReplyTo fs o r → IsTried r) → Goes fs o tried
-  goes_tried o kind = record { less = less; more = more; fits = λ r st is none. fits r st (kind r is) none }
+  goes_tried : (o : Op) → ((r : Reply) → IsReplyTo fs o r → IsTried r) → ((r : Reply) → Ends o r → IsFault r) → Goes fs o tried
+  goes_tried o kind fault = record { less = less; more = more; fits = λ r st is none. fits r st (kind r is) none; ends = λ r st is. ends r st (fault r is) }
     where
+      ends : (r : Reply) (st : State) → IsFault r → IsOver fs (tried r st)
+      ends (reply.Fault f) st is = IsOver.over
+      ends (reply.Value v) st is = absurd is
+      ends reply.Done st is = absurd is
+      ends (reply.Exchanged old success) st is = absurd is
+      ends (reply.Locked mine) st is = absurd is
+      ends (reply.Created thread) st is = absurd is
+      ends (reply.Began function argument) st is = absurd is
+      ends (reply.Joined v) st is = absurd is
+
       less : (r : Reply) (st : State) → Below fs (left st) (tried r st)
       less (reply.Locked true) st = Below.gives (omega arith)
       less (reply.Locked false) st = Below.gives (omega arith)
@@ -150,9 +180,19 @@ module _ (fs : List Signature) where
       fits (reply.Joined v) st is none = absurd is
       fits (reply.Fault fault) st is none = absurd is
 
-  goes_created : (o : Op) (place : ℕ) → ((r : Reply) → IsReplyTo fs o r → IsCreated r) → Goes fs o (created place)
-  goes_created o place kind = record { less = less; more = more; fits = λ r st is none. fits r st (kind r is) none }
+  goes_created : (o : Op) (place : ℕ) → ((r : Reply) → IsReplyTo fs o r → IsCreated r) → ((r : Reply) → Ends o r → IsFault r) → Goes fs o (created place)
+  goes_created o place kind fault = record { less = less; more = more; fits = λ r st is none. fits r st (kind r is) none; ends = λ r st is. ends r st (fault r is) }
     where
+      ends : (r : Reply) (st : State) → IsFault r → IsOver fs (created place r st)
+      ends (reply.Fault f) st is = IsOver.over
+      ends (reply.Value v) st is = absurd is
+      ends reply.Done st is = absurd is
+      ends (reply.Exchanged old success) st is = absurd is
+      ends (reply.Locked mine) st is = absurd is
+      ends (reply.Created thread) st is = absurd is
+      ends (reply.Began function argument) st is = absurd is
+      ends (reply.Joined v) st is = absurd is
+
       less : (r : Reply) (st : State) → Below fs (left st) (created place r st)
       less (reply.Created thread) st = Below.gives (omega arith)
       less reply.Done st = Below.over
@@ -231,8 +271,19 @@ module _ (fs : List Signature) where
   joined_fits answer (reply.Began function argument) st is none = absurd is
   joined_fits answer (reply.Fault fault) st is none = absurd is
 
-  goes_joined : (o : Op) (answer : Option ℕ) → ((r : Reply) → IsReplyTo fs o r → IsJoined r) → Goes fs o (joined answer)
-  goes_joined o answer kind = record { less = joined_less answer; more = joined_more answer; fits = λ r st is none. joined_fits answer r st (kind r is) none }
+  joined_ends : (answer : Option ℕ) (r : Reply) (st : State) → IsFault r → IsOver fs (joined answer r st)
+  joined_ends None (reply.Fault f) st is = IsOver.over
+  joined_ends (Some place) (reply.Fault f) st is = IsOver.over
+  joined_ends answer (reply.Joined v) st is = absurd is
+  joined_ends answer reply.Done st is = absurd is
+  joined_ends answer (reply.Value v) st is = absurd is
+  joined_ends answer (reply.Exchanged old success) st is = absurd is
+  joined_ends answer (reply.Locked mine) st is = absurd is
+  joined_ends answer (reply.Created thread) st is = absurd is
+  joined_ends answer (reply.Began function argument) st is = absurd is
+
+  goes_joined : (o : Op) (answer : Option ℕ) → ((r : Reply) → IsReplyTo fs o r → IsJoined r) → ((r : Reply) → Ends o r → IsFault r) → Goes fs o (joined answer)
+  goes_joined o answer kind fault = record { less = joined_less answer; more = joined_more answer; fits = λ r st is none. joined_fits answer r st (kind r is) none; ends = λ r st is. joined_ends answer r st (fault r is) }
 
   module _ (t : Tables) (calls : Calls) (called : CallsRun fs calls) where
     -- ---- values
@@ -252,15 +303,15 @@ module _ (fs : List Signature) where
     -- ---- operations of the library
 
     runs_loading : (line : ℕ) (a : Object Valuing) (orders : List (Given Valuing)) (scope : Scope) → ObjectRuns fs t calls a → Lies t fs scope → Runs fs (loading line a orders scope calls)
-    runs_loading line a orders scope d lies = runs_bind fs (runs_located fs t calls a scope d lies) (λ cell. runs_operation fs line (λ locals. op.AtomicLoad cell (order_in orders scope)) (λ locals. told) (λ locals. goes_told fs (op.AtomicLoad cell (order_in orders scope)) (λ r is. is)))
+    runs_loading line a orders scope d lies = runs_bind fs (runs_located fs t calls a scope d lies) (λ cell. runs_operation fs line (λ locals. op.AtomicLoad cell (order_in orders scope)) (λ locals. told) (λ locals. goes_told fs (op.AtomicLoad cell (order_in orders scope)) (λ r is. is) (λ r is. is)))
 
     runs_storing : (line : ℕ) (a : Object Valuing) (g : Given Valuing) (orders : List (Given Valuing)) (scope : Scope) → ObjectRuns fs t calls a → GivenRuns fs t calls g → Lies t fs scope → Runs fs (storing line a g orders scope calls)
     runs_storing line a g orders scope d dg lies = runs_bind fs (runs_located fs t calls a scope d lies) (λ cell. runs_bind fs (runs_given g scope dg lies) (λ v.
-        runs_operation fs line (λ locals. op.AtomicStore cell (order_in orders scope) (object_value a scope v)) (λ locals. when_done nothing) (λ locals. goes_done fs (op.AtomicStore cell (order_in orders scope) (object_value a scope v)) nothing (λ r is. is))))
+        runs_operation fs line (λ locals. op.AtomicStore cell (order_in orders scope) (object_value a scope v)) (λ locals. when_done nothing) (λ locals. goes_done fs (op.AtomicStore cell (order_in orders scope) (object_value a scope v)) nothing (λ r is. is) (λ r is. is))))
 
     runs_modifying : (line : ℕ) (k : RmwKind) (a : Object Valuing) (g : Given Valuing) (orders : List (Given Valuing)) (scope : Scope) → ObjectRuns fs t calls a → GivenRuns fs t calls g → Lies t fs scope → Runs fs (modifying line k a g orders scope calls)
     runs_modifying line k a g orders scope d dg lies = runs_bind fs (runs_located fs t calls a scope d lies) (λ cell. runs_bind fs (runs_given g scope dg lies) (λ v.
-        runs_operation fs line (λ locals. op.Rmw cell (order_in orders scope) k (object_value a scope v)) (λ locals. told) (λ locals. goes_told fs (op.Rmw cell (order_in orders scope) k (object_value a scope v)) (λ r is. is))))
+        runs_operation fs line (λ locals. op.Rmw cell (order_in orders scope) k (object_value a scope v)) (λ locals. told) (λ locals. goes_told fs (op.Rmw cell (order_in orders scope) k (object_value a scope v)) (λ r is. is) (λ r is. is))))
 
     expected_in : CType → ℕ → List ℤ → TypedNumber
     expected_in ctype place locals = local_value ctype (record { locals = locals; replies = []; turns = 0 }) place
@@ -269,14 +320,14 @@ module _ (fs : List Signature) where
     unfolding expected_in
     runs_comparing line weak a x g orders scope d dx dg lies = runs_bind fs (runs_located fs t calls a scope d lies) (λ cell. runs_bind fs (runs_located fs t calls x scope dx lies) (λ place. runs_bind fs (runs_given g scope dg lies) (λ v.
         let o : List ℤ → Op = λ locals. op.CompareExchange cell (order_in orders scope) (second_order_in orders scope) weak (expected_in (entity_type (entity_of x scope)) place locals) (object_value a scope v) in
-        runs_operation fs line o (λ locals. exchanged place) (λ locals. goes_exchanged (o locals) place (λ r is. is)))))
+        runs_operation fs line o (λ locals. exchanged place) (λ locals. goes_exchanged (o locals) place (λ r is. is) (λ r is. is)))))
 
     runs_mutex : (line : ℕ) (o : ℕ → Op) (go : Reply → State → Outcome TypedNumber) (m : Object Valuing) (scope : Scope) → ObjectRuns fs t calls m → ((mutex : ℕ) → Goes fs (o mutex) go) → Lies t fs scope → Runs fs (λ st. and_then (located m scope calls st) (λ mutex st. operation line (o mutex) st go))
     runs_mutex line o go m scope d goes lies = runs_bind fs (runs_located fs t calls m scope d lies) (λ mutex. runs_operation fs line (λ locals. o mutex) (λ locals. go) (λ locals. goes mutex))
 
     runs_creating : (line : ℕ) (handle : Object Valuing) (function g : Given Valuing) (scope : Scope) → ObjectRuns fs t calls handle → GivenRuns fs t calls g → Lies t fs scope → Runs fs (creating line handle function g scope calls)
     runs_creating line handle function g scope d dg lies = runs_bind fs (runs_located fs t calls handle scope d lies) (λ place. runs_bind fs (runs_given g scope dg lies) (λ v.
-        let o = op.Create (function_named (given_entity function scope)) (converted Long v).number in runs_operation fs line (λ locals. o) (λ locals. created place) (λ locals. goes_created o place (λ r is. is))))
+        let o = op.Create (function_named (given_entity function scope)) (converted Long v).number in runs_operation fs line (λ locals. o) (λ locals. created place) (λ locals. goes_created o place (λ r is. is) (λ r is. is))))
 
     runs_handle : (object : Option (Object Valuing)) (scope : Scope) → MayRun fs t calls object → Lies t fs scope → Runs fs (handle_read object scope calls)
     runs_handle _ scope MayRun.none lies = runs_bind fs (runs_gives fs 0) (λ place. record { less = λ st. Below.gives (omega arith); alone = λ st is. Awaits.gives is; more = λ x st. Beside.gives })
@@ -294,14 +345,14 @@ module _ (fs : List Signature) where
 
     runs_joining : (line : ℕ) (handle answer : Given Valuing) (scope : Scope) → GivenRuns fs t calls handle → GivenRuns fs t calls answer → Lies t fs scope → Runs fs (joining line handle answer scope calls)
     runs_joining line handle answer scope d da lies = runs_bind fs (runs_handle (given_object handle) scope (given_may handle d) lies) (λ thread. runs_bind fs (runs_answer answer scope da lies) (λ place.
-        runs_operation fs line (λ locals. op.Join (thread_of thread)) (λ locals. joined place) (λ locals. goes_joined (op.Join (thread_of thread)) place (λ r is. is))))
+        runs_operation fs line (λ locals. op.Join (thread_of thread)) (λ locals. joined place) (λ locals. goes_joined (op.Join (thread_of thread)) place (λ r is. is) (λ r is. is))))
 
     runs_asserting : (line : ℕ) (g : Given Valuing) (scope : Scope) → GivenRuns fs t calls g → Lies t fs scope → Runs fs (asserting line g scope calls)
     runs_asserting line g scope d lies = runs_bind fs (runs_given g scope d lies) (λ v. runs_if fs (is_zero v) (runs_stop fs line kind.Assert) runs_nothing)
 
     runs_printing : (line : ℕ) (bytes : List ℕ) (gs : List (Given Valuing)) (scope : Scope) → AllRun fs t calls gs → Lies t fs scope → Runs fs (printing line bytes gs scope calls)
     runs_printing line bytes gs scope ds lies = runs_bind fs (runs_values gs scope ds lies) (λ vs. let o = op.Out (printed Plain bytes vs) in let v = int_of (pos (length (printed Plain bytes vs))) in
-        runs_operation fs line (λ locals. o) (λ locals. when_done v) (λ locals. goes_done fs o v (λ r is. is)))
+        runs_operation fs line (λ locals. o) (λ locals. when_done v) (λ locals. goes_done fs o v (λ r is. is) (λ r is. is)))
 
     runs_library : (f : Library) (line : ℕ) (gs : List (Given Valuing)) (scope : Scope) → AllRun fs t calls gs → Lies t fs scope → Runs fs (library_call f line gs scope calls)
     runs_library (l.Load explicit) line _ scope (AllRun.cons (GivenRuns.address {o = o} d) (AllRun.nil)) lies = runs_loading line o [] scope d lies
@@ -327,20 +378,20 @@ module _ (fs : List Signature) where
     runs_library (l.CompareExchange weak explicit) line _ scope AllRun.nil lies = runs_nothing
     runs_library (l.CompareExchange weak explicit) line _ scope (AllRun.cons (GivenRuns.text bytes) ds) lies = runs_nothing
     runs_library (l.CompareExchange weak explicit) line _ scope (AllRun.cons (GivenRuns.of_value d) ds) lies = runs_nothing
-    runs_library l.Fence line gs scope ds lies = runs_operation fs line (λ locals. op.Fence (order_in gs scope)) (λ locals. when_done nothing) (λ locals. goes_done fs (op.Fence (order_in gs scope)) nothing (λ r is. is))
-    runs_library l.MutexInit line _ scope (AllRun.cons (GivenRuns.address {o = o} d) ds) lies = runs_mutex line (λ m. op.MutexInit m) (when_done zero_number) o scope d (λ m. goes_done fs (op.MutexInit m) zero_number (λ r is. is)) lies
+    runs_library l.Fence line gs scope ds lies = runs_operation fs line (λ locals. op.Fence (order_in gs scope)) (λ locals. when_done nothing) (λ locals. goes_done fs (op.Fence (order_in gs scope)) nothing (λ r is. is) (λ r is. is))
+    runs_library l.MutexInit line _ scope (AllRun.cons (GivenRuns.address {o = o} d) ds) lies = runs_mutex line (λ m. op.MutexInit m) (when_done zero_number) o scope d (λ m. goes_done fs (op.MutexInit m) zero_number (λ r is. is) (λ r is. is)) lies
     runs_library l.MutexInit line _ scope AllRun.nil lies = runs_nothing
     runs_library l.MutexInit line _ scope (AllRun.cons (GivenRuns.text bytes) ds) lies = runs_nothing
     runs_library l.MutexInit line _ scope (AllRun.cons (GivenRuns.of_value d) ds) lies = runs_nothing
-    runs_library l.MutexLock line _ scope (AllRun.cons (GivenRuns.address {o = o} d) ds) lies = runs_mutex line (λ m. op.Lock m) when_locked o scope d (λ m. goes_locked (op.Lock m) (λ r is. is)) lies
+    runs_library l.MutexLock line _ scope (AllRun.cons (GivenRuns.address {o = o} d) ds) lies = runs_mutex line (λ m. op.Lock m) when_locked o scope d (λ m. goes_locked (op.Lock m) (λ r is. is) (λ r is. is)) lies
     runs_library l.MutexLock line _ scope AllRun.nil lies = runs_nothing
     runs_library l.MutexLock line _ scope (AllRun.cons (GivenRuns.text bytes) ds) lies = runs_nothing
     runs_library l.MutexLock line _ scope (AllRun.cons (GivenRuns.of_value d) ds) lies = runs_nothing
-    runs_library l.MutexTryLock line _ scope (AllRun.cons (GivenRuns.address {o = o} d) ds) lies = runs_mutex line (λ m. op.TryLock m) tried o scope d (λ m. goes_tried (op.TryLock m) (λ r is. is)) lies
+    runs_library l.MutexTryLock line _ scope (AllRun.cons (GivenRuns.address {o = o} d) ds) lies = runs_mutex line (λ m. op.TryLock m) tried o scope d (λ m. goes_tried (op.TryLock m) (λ r is. is) (λ r is. is)) lies
     runs_library l.MutexTryLock line _ scope AllRun.nil lies = runs_nothing
     runs_library l.MutexTryLock line _ scope (AllRun.cons (GivenRuns.text bytes) ds) lies = runs_nothing
     runs_library l.MutexTryLock line _ scope (AllRun.cons (GivenRuns.of_value d) ds) lies = runs_nothing
-    runs_library l.MutexUnlock line _ scope (AllRun.cons (GivenRuns.address {o = o} d) ds) lies = runs_mutex line (λ m. op.Unlock m) (when_done zero_number) o scope d (λ m. goes_done fs (op.Unlock m) zero_number (λ r is. is)) lies
+    runs_library l.MutexUnlock line _ scope (AllRun.cons (GivenRuns.address {o = o} d) ds) lies = runs_mutex line (λ m. op.Unlock m) (when_done zero_number) o scope d (λ m. goes_done fs (op.Unlock m) zero_number (λ r is. is) (λ r is. is)) lies
     runs_library l.MutexUnlock line _ scope AllRun.nil lies = runs_nothing
     runs_library l.MutexUnlock line _ scope (AllRun.cons (GivenRuns.text bytes) ds) lies = runs_nothing
     runs_library l.MutexUnlock line _ scope (AllRun.cons (GivenRuns.of_value d) ds) lies = runs_nothing

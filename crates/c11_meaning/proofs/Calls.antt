@@ -37,7 +37,7 @@ use Rattle.c11_meaning.specs.Prints.{printed}
 use Rattle.c11_meaning.specs.Parts.{Object, Given, entity_of, entity_given, given_object, given_entity, order_in, second_order_in, function_named}
 use Rattle.c11_meaning.specs.Expressions.{Calls, Valuing, located}
 use Rattle.c11_meaning.specs.Library.{value_given, loading, object_value, storing, modifying, exchanged, comparing, zero_number, when_locked, tried, created, creating, joined, answer_place, handle_read, thread_of, joining, values_given, printing, library_call, call}
-use Rattle.c11_meaning.specs.Legal.{World, IsCellOf, IsThread, IsThreadFunction, IsOpOf}
+use Rattle.c11_meaning.specs.Legal.{World, IsCellOf, IsThread, AreReplies, IsThreadFunction, IsOpOf}
 use Rattle.c11_meaning.proofs.Fine.{IsKnownAt, IsKnownReply, thread_known, Good, AllKnown, Fine, Keeps, good_local, good_handle, fine_bind, fine_more, fine_operation, fine_stop, fine_told, fine_done, fine_if}
 use Rattle.c11_meaning.proofs.Named.{CallsFine, Knows, AtEntity, ValueFine, IsNamed, named, indexed, IsFormed, GivenFine, AllGiven, located_fine}
 
@@ -398,7 +398,7 @@ module _ (w : World) (owners : List Bool) (calls : Calls) where
       fine_operation w owners _ line (op.Create (function_named (given_entity function scope)) (converted c.Long v).number) st (created place) (thread_function fpart function scope fgiven knows argued) good (λ r st good is. created_fine place r st is good)))
 
   handle_fine : (part : check.Part) (g : Given Valuing) (scope : Scope) (st : State) → GivenFine w owners calls part g → Knows w owners calls scope → Argued want.Handle part scope → Good w owners st
-      → Fine w (λ thread st. Good w owners st × IsThread w.replies (thread_of thread)) (handle_read (given_object g) scope calls st)
+      → Fine w (λ thread st. Good w owners st × (AreReplies w.replies → IsThread w.replies (thread_of thread))) (handle_read (given_object g) scope calls st)
   handle_fine _ _ scope st (GivenFine.address spot is) knows argued good = clash (sym argued.form)
   handle_fine _ _ scope st (GivenFine.text spot bytes) knows argued good = clash (sym argued.form)
   handle_fine _ _ scope st (GivenFine.of_value {part = part} {q = q} fine) knows argued good = by q.object fine.form
@@ -407,7 +407,7 @@ module _ (w : World) (owners : List Bool) (calls : Calls) where
       is_one _ _ (named word) is = sym (ap (has_form want.Handle) is) ∙ argued.form
       is_one _ _ (indexed word f) is = sym (ap (has_form want.Handle) is) ∙ argued.form
 
-      by : (object : Option (Object Valuing)) → IsFormed w owners calls part object → Fine w (λ thread st. Good w owners st × IsThread w.replies (thread_of thread)) (handle_read object scope calls st)
+      by : (object : Option (Object Valuing)) → IsFormed w owners calls part object → Fine w (λ thread st. Good w owners st × (AreReplies w.replies → IsThread w.replies (thread_of thread))) (handle_read object scope calls st)
       by _ (IsFormed.other none) = clash (sym argued.form ∙ (none scope).0)
       by _ (IsFormed.read {n = n} {o = o} is form faults) = fine_bind w (place_fine _ n o scope st is knows (sym (faults scope) ∙ argued.faults) (handle_at (entity_of o scope) (is_one n o is (form scope))) good)
           (λ place st at. Fine.gives (at.0, thread_known w st place (at.0.handles place at.1)))

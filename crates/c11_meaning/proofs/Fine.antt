@@ -17,7 +17,7 @@ use Rattle.c11_events.specs.declared.reply.Reply.TheVariants as reply
 use Rattle.c11_meaning.specs.Outcome.{State, Outcome, Gives, Wants, Over, and_then, ask_at, with_reply, operation, told, when_done, stop, stop_of, computed, counting}
 use Rattle.c11_meaning.specs.Objects.{option_number, local_at, local_value, with_local_at}
 use Rattle.c11_meaning.specs.Library.{thread_of}
-use Rattle.c11_meaning.specs.Legal.{World, IsThread, IsOpOf}
+use Rattle.c11_meaning.specs.Legal.{World, IsThread, AreReplies, IsOpOf}
 
 -- ---- places
 
@@ -48,13 +48,13 @@ module _ (w : World) where
 
   -- the number of a thread that may be joined
   abbrev pub IsKnown : ℕ → Type 0
-  IsKnown n = (n < 2 ^ 32) × IsThread w.replies n
+  IsKnown n = AreReplies w.replies → (n < 2 ^ 32) × IsThread w.replies n
 
   abbrev pub IsKnownAt : ℤ → Type 0
   IsKnownAt z = (n : ℕ) × ((z ≡ pos n) × IsKnown n)
 
   pub known_zero : IsKnownAt (pos 0)
-  known_zero = (0, (refl, (omega arith, inl refl)))
+  known_zero = (0, (refl, λ are. (omega arith, inl refl)))
 
   in_long : (n : ℕ) → n < 2 ^ 32 → IsInRange Long (pos n)
   in_long n less = (omega (arith, ints), omega (arith, ints, less))
@@ -67,10 +67,10 @@ module _ (w : World) where
   same_bits n less = ap unsigned_abs (wrapped_number Unsigned (pos n) (in_unsigned n less))
 
   -- a handle that holds such a number names that thread
-  pub thread_known : (st : State) (place : ℕ) → IsKnownAt (local_at st place) → IsThread w.replies (thread_of (local_value Long st place))
-  thread_known st place known = let n = known.0 in let less = known.1.1.0 in
+  pub thread_known : (st : State) (place : ℕ) → IsKnownAt (local_at st place) → AreReplies w.replies → IsThread w.replies (thread_of (local_value Long st place))
+  thread_known st place known are = let n = known.0 in let less = (known.1.1 are).0 in
       let number : (local_value Long st place).number ≡ pos n = ap (λ (z : ℤ). (wrapped Long z).number) known.1.0 ∙ wrapped_number Long (pos n) (in_long n less) in
-      subst (IsThread w.replies) (sym (ap (bits_of Unsigned) number ∙ same_bits n less)) known.1.1.1
+      subst (IsThread w.replies) (sym (ap (bits_of Unsigned) number ∙ same_bits n less)) (known.1.1 are).1
 
   abbrev pub AllKnown : List Reply → Type 0
   AllKnown replies = (thread i : ℕ) → slice_get replies i ≡ Some (reply.Created thread) → IsKnown thread

@@ -30,8 +30,8 @@ use Rattle.c11_meaning.specs.Outcome.{State, Outcome, Gives, and_then, told, whe
 use Rattle.c11_meaning.specs.Objects.{nothing, one, is_zero, entity_base, entity_size, element, read_of, write_of, kind_of_op, updated, update, compute, compound, step_op, new_or_old, not_before, step_plain, step}
 use Rattle.c11_meaning.specs.Parts.{Object, Part, Given, Address, Text, Value, Linked, line_of, entity_of}
 use Rattle.c11_meaning.specs.Expressions.{Calls, Valuing, element_by, located, reading, assigning, stepping, typed_as, branch, condition, truth_of, right_truth, infixed, chained, prefixed}
-use Rattle.c11_meaning.specs.Progress.{IsReplyTo, IsValue}
-use Rattle.c11_meaning.proofs.Awaiting.{Below, Awaits, Beside, Runs, Goes, below_bind, awaits_bind, beside_bind, runs_bind, runs_gives, runs_if, runs_operation, runs_stop, goes_told, goes_done, runs_computed}
+use Rattle.c11_meaning.specs.Progress.{IsReplyTo, Ends, IsFault, IsValue}
+use Rattle.c11_meaning.proofs.Awaiting.{Below, Awaits, Beside, Runs, Goes, below_bind, awaits_bind, over_bind, beside_bind, runs_bind, runs_gives, runs_if, runs_operation, runs_stop, goes_told, goes_done, runs_computed}
 
 -- a call of a function that is there
 abbrev pub CallsRun : List Signature → Calls → Type 0
@@ -49,8 +49,8 @@ module _ (fs : List Signature) where
 
   runs_read : (entity : Option Entity) (line place : ℕ) → Runs fs (read_of entity line place)
   runs_read (Some (e.Local ctype base size)) line place = record { less = λ st. Below.gives (omega arith); alone = λ st is. Awaits.gives is; more = λ x st. Beside.gives }
-  runs_read (Some (e.Plain ctype base size)) line place = runs_operation fs line (λ locals. op.PlainRead place) (λ locals. told) (λ locals. goes_told fs (op.PlainRead place) (λ r is. is))
-  runs_read (Some (e.Atomic ctype base size)) line place = runs_operation fs line (λ locals. op.AtomicLoad place SeqCst) (λ locals. told) (λ locals. goes_told fs (op.AtomicLoad place SeqCst) (λ r is. is))
+  runs_read (Some (e.Plain ctype base size)) line place = runs_operation fs line (λ locals. op.PlainRead place) (λ locals. told) (λ locals. goes_told fs (op.PlainRead place) (λ r is. is) (λ r is. is))
+  runs_read (Some (e.Atomic ctype base size)) line place = runs_operation fs line (λ locals. op.AtomicLoad place SeqCst) (λ locals. told) (λ locals. goes_told fs (op.AtomicLoad place SeqCst) (λ r is. is) (λ r is. is))
   runs_read (Some (e.Defined value)) line place = runs_gives fs value
   runs_read (Some (e.Constant constant)) line place = runs_gives fs (constant_value constant)
   runs_read (Some (e.Handle base size)) line place = runs_gives fs nothing
@@ -62,8 +62,8 @@ module _ (fs : List Signature) where
 
   runs_write : (entity : Option Entity) (line place : ℕ) (value : TypedNumber) → Runs fs (write_of entity line place value)
   runs_write (Some (e.Local ctype base size)) line place value = record { less = λ st. Below.gives (omega arith); alone = λ st is. Awaits.gives is; more = λ x st. Beside.gives }
-  runs_write (Some (e.Plain ctype base size)) line place value = runs_operation fs line (λ locals. op.PlainWrite place (converted ctype value)) (λ locals. when_done (converted ctype value)) (λ locals. goes_done fs (op.PlainWrite place (converted ctype value)) (converted ctype value) (λ r is. is))
-  runs_write (Some (e.Atomic ctype base size)) line place value = runs_operation fs line (λ locals. op.AtomicStore place SeqCst (converted ctype value)) (λ locals. when_done (converted ctype value)) (λ locals. goes_done fs (op.AtomicStore place SeqCst (converted ctype value)) (converted ctype value) (λ r is. is))
+  runs_write (Some (e.Plain ctype base size)) line place value = runs_operation fs line (λ locals. op.PlainWrite place (converted ctype value)) (λ locals. when_done (converted ctype value)) (λ locals. goes_done fs (op.PlainWrite place (converted ctype value)) (converted ctype value) (λ r is. is) (λ r is. is))
+  runs_write (Some (e.Atomic ctype base size)) line place value = runs_operation fs line (λ locals. op.AtomicStore place SeqCst (converted ctype value)) (λ locals. when_done (converted ctype value)) (λ locals. goes_done fs (op.AtomicStore place SeqCst (converted ctype value)) (converted ctype value) (λ r is. is) (λ r is. is))
   runs_write (Some (e.Defined v)) line place value = runs_gives fs nothing
   runs_write (Some (e.Constant constant)) line place value = runs_gives fs nothing
   runs_write (Some (e.Handle base size)) line place value = runs_gives fs nothing
@@ -73,16 +73,17 @@ module _ (fs : List Signature) where
   runs_write (Some (e.Order order)) line place value = runs_gives fs nothing
   runs_write None line place value = runs_gives fs nothing
 
-  goes_updated : (o : Op) (old : Bool) (k : RmwKind) (operand : TypedNumber) → ((r : Reply) → IsReplyTo fs o r → IsValue r) → Goes fs o (λ r st. and_then (told r st) (updated old k operand))
-  goes_updated o old k operand kind = let g = goes_told fs o kind in record {
+  goes_updated : (o : Op) (old : Bool) (k : RmwKind) (operand : TypedNumber) → ((r : Reply) → IsReplyTo fs o r → IsValue r) → ((r : Reply) → Ends o r → IsFault r) → Goes fs o (λ r st. and_then (told r st) (updated old k operand))
+  goes_updated o old k operand kind fault = let g = goes_told fs o kind fault in record {
     less = λ r st. below_bind fs (left st) (g.less r st) (λ a after le. Below.gives le);
     more = λ x r st. beside_bind fs x (g.more x r st) (λ a after is. Beside.gives) (λ a after is. Awaits.gives is);
     fits = λ r st is none. awaits_bind fs (g.fits r st is none) (λ a after is. Awaits.gives is);
+    ends = λ r st is. over_bind fs _ (g.ends r st is);
   }
 
   runs_update : (line cell : ℕ) (ctype : CType) (o : BinaryOp) (old : Bool) (value : TypedNumber) → Runs fs (update line cell ctype o old value)
   runs_update line cell ctype o old value = runs_operation fs line (λ locals. op.Rmw cell SeqCst (kind_of_op o) (converted ctype value)) (λ locals r st. and_then (told r st) (updated old (kind_of_op o) (converted ctype value)))
-      (λ locals. goes_updated (op.Rmw cell SeqCst (kind_of_op o) (converted ctype value)) old (kind_of_op o) (converted ctype value) (λ r is. is))
+      (λ locals. goes_updated (op.Rmw cell SeqCst (kind_of_op o) (converted ctype value)) old (kind_of_op o) (converted ctype value) (λ r is. is) (λ r is. is))
 
   runs_compute : (entity : Option Entity) (line op_line : ℕ) (o : BinaryOp) (place : ℕ) (right : State → Outcome TypedNumber) → Runs fs right → Runs fs (compute entity line op_line o place right)
   runs_compute entity line op_line o place right f = runs_bind fs (runs_read entity line place) (λ x. runs_bind fs f (λ y. runs_bind fs (runs_computed fs op_line (binary_of o x y)) (λ z. runs_write entity line place z)))

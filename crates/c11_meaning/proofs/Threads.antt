@@ -224,9 +224,9 @@ all_fine program replies few clean n r is =
     subst (FunctionFine w) (sym (found.is ∙ ap (λ (s : Scope). runnable f (inner_scope f s)) there.scope)) fine
 
 pub asks_are_legal : AsksAreLegal
-asks_are_legal program replies ask few clean are is =
+asks_are_legal program replies ask few clean is =
     let w = world_of program replies in let functions = functions_of program in
-    let known : AllKnown w replies = λ thread i at. (are thread i at, inr (i, at)) in
+    let known : AllKnown w replies = λ thread i at are. (are thread i at, inr (i, at)) in
     let st : State = record { locals = []; replies = replies; turns = turn_limit } in
     wanted_legal w (operation 0 op.Begin st (begun functions)) ask
     (fine_operation w [] _ 0 op.Begin st (begun functions) tt (good_none w st known) (λ r st good is. begun_fine w functions (all_fine program replies few clean) r st good.replies)) is

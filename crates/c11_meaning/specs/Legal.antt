@@ -37,6 +37,10 @@ IsThreadFunction functions function = (signature : Signature) × ((slice_get fun
 abbrev pub IsThread : List Reply → ℕ → Type 0
 IsThread replies thread = (thread ≡ 0) ⊎ ((i : ℕ) × (slice_get replies i ≡ Some (Created thread)))
 
+-- the numbers of created threads fit 32 bits
+abbrev pub AreReplies : List Reply → Type 0
+AreReplies replies = (thread i : ℕ) → slice_get replies i ≡ Some (Created thread) → thread < 2 ^ 32
+
 abbrev pub IsOpOf : World → Op → Type 0
 IsOpOf w (op.Init cell value) = ⊥
 IsOpOf w (op.AtomicLoad cell order) = IsCell w.tables.atomics cell
@@ -50,18 +54,14 @@ IsOpOf w (op.Lock mutex) = mutex < length w.tables.mutexes
 IsOpOf w (op.TryLock mutex) = mutex < length w.tables.mutexes
 IsOpOf w (op.Unlock mutex) = mutex < length w.tables.mutexes
 IsOpOf w (op.Create function argument) = IsThreadFunction w.functions function
-IsOpOf w (op.Join thread) = IsThread w.replies thread
+IsOpOf w (op.Join thread) = AreReplies w.replies → IsThread w.replies thread
 IsOpOf w (op.Fence order) = ⊤
 IsOpOf w op.Begin = ⊤
 IsOpOf w (op.End value) = ⊤
 IsOpOf w (op.Out bytes) = ⊤
 IsOpOf w (op.Stop kind) = ⊤
 
--- the numbers of created threads fit 32 bits
-abbrev pub AreReplies : List Reply → Type 0
-AreReplies replies = (thread i : ℕ) → slice_get replies i ≡ Some (Created thread) → thread < 2 ^ 32
-
 -- A program without a fault asks for nothing else, whatever the replies.
 abbrev pub AsksAreLegal : Type 0
-AsksAreLegal = (program : Program) (replies : List Reply) (ask : Ask) → length program.items < 2 ^ 32 → HasNoFault program → AreReplies replies → asks_of program replies ≡ Some ask
+AsksAreLegal = (program : Program) (replies : List Reply) (ask : Ask) → length program.items < 2 ^ 32 → HasNoFault program → asks_of program replies ≡ Some ask
     → IsOpOf (record { tables = tables_of program; functions = signatures_in program.items; replies = replies }) ask.op

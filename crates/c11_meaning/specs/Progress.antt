@@ -1,5 +1,5 @@
 -- A thread that was told what it asked for goes on to ask.
-use Rattle.std.specs.Prelude.{◌≡◌, ◌<◌, ◌^◌, ⊤, true, List, [], ◌∷◌, ◌++◌, length, Some, slice_get}
+use Rattle.std.specs.Prelude.{◌≡◌, ◌<◌, ◌^◌, ⊤, true, List, [], ◌∷◌, ◌++◌, length, Some, None, slice_get}
 use Rattle.c11_ast.specs.declared.item.Program.{Program}
 use Rattle.c11_events.specs.declared.op.Ask.{Ask}
 use Rattle.c11_events.specs.declared.op.Op.{Op}
@@ -66,6 +66,20 @@ IsReplyTo functions (op.Out bytes) r = IsDone r
 IsReplyTo functions (op.Init cell value) r = ⊥
 IsReplyTo functions (op.End value) r = ⊥
 IsReplyTo functions (op.Stop kind) r = ⊥
+
+abbrev pub IsFault : Reply → Type 0
+IsFault (reply.Fault fault) = ⊤
+IsFault _ = ⊥
+
+-- nothing comes after an End, after a Stop, and after a Fault
+abbrev pub Ends : Op → Reply → Type 0
+Ends (op.End value) r = ⊤
+Ends (op.Stop kind) r = ⊤
+Ends _ r = IsFault r
+
+abbrev pub AsksNoMore : Type 0
+AsksNoMore = (program : Program) (replies : List Reply) (ask : Ask) (r : Reply) → length program.items < 2 ^ 32 → HasNoFault program → asks_of program replies ≡ Some ask → Ends ask.op r
+    → asks_of program (replies ++ r ∷ []) ≡ None
 
 -- Where a thread of a program without a fault wants something, and is told what is of its kind, it wants something again.
 abbrev pub AsksAgain : Type 0
