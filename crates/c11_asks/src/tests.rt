@@ -1,0 +1,2 @@
+mod tell;
+mod threads;
