@@ -167,6 +167,47 @@ fn texts_that_are_not_run_are_refused_for_the_first_that_applies(
     Ok(())
 }
 
+// Refusals that other parts of the program find: the order of an access, a literal that no type holds; and programs of another form than
+// is run yet: a deadlock over a mutex, a sum that wraps and one that overflows, and the longest text that is accepted.
+#[test]
+fn each_kind_of_refusal_is_printed_with_its_place(rt: HostRuntime) -> Result<(), Fail> {
+    let padded = padded_text(rt.alloc())?;
+    assert_eq!(rt; padded.len(), 65_536);
+    for (text, printed) in [
+        (
+            "atomic_int x;\nint main(void) { return atomic_load_explicit(&x, memory_order_release); }\n",
+            "refused order 2 50\n",
+        ),
+        (
+            "int main(void) { return 5000000000000000000000; }\n",
+            "refused literal 1 25\n",
+        ),
+        (DEADLOCK, "refused form\n"),
+        (SUMS, "refused form\n"),
+        (padded.as_str(), "refused form\n"),
+    ] {
+        let (status, taken) = answer(rt.alloc(), "run", text)?;
+        assert_eq!(rt; status, Status::Refused);
+        assert_eq!(rt; taken.as_slice(), printed.as_bytes());
+    }
+    Ok(())
+}
+
+// A program, and line feeds up to 65,536 bytes.
+fn padded_text(alloc: Global) -> Result<String, AllocError> {
+    let mut text = String::from_str(alloc, "int main(void){}")?;
+    for _ in 0..65_520 {
+        text.push_str("\n")?;
+    }
+    Ok(text)
+}
+
+const DEADLOCK: &str =
+    "#include <threads.h>\nmtx_t m;\nint f(void *a) {\n  mtx_lock(&m);\n  return 0;\n}\nint main(void) {\n  thrd_t t;\n  mtx_init(&m, mtx_plain);\n  mtx_lock(&m);\n  thrd_create(&t, f, NULL);\n  thrd_join(t, NULL);\n  return 0;\n}\n";
+
+const SUMS: &str =
+    "#include <stdatomic.h>\n#include <stdio.h>\natomic_int a = 2147483647;\nint main(void) {\n  atomic_fetch_add(&a, 1);\n  printf(\"%d\\n\", atomic_load(&a));\n  int i = 2147483647;\n  i = i + 1;\n  return 0;\n}\n";
+
 #[test]
 fn words_without_a_reading_get_the_usage_and_leave_the_source(rt: HostRuntime) -> Result<(), Fail> {
     for line in [
