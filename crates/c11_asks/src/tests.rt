@@ -1,2 +1,7 @@
+mod arithmetic;
+mod control;
+mod library;
+mod objects;
 mod tell;
 mod threads;
+mod worked;
