@@ -56,7 +56,7 @@ int main(void) {
   l = m % 10;
   l = m << 31;
   l = m >> 31;
-  l = -1 < m;
+  l = (z < m) + 2 * (m <= z) + 4 * (z > m) + 8 * (m >= -2) + 16 * (m == -1) + 32 * (m != -1);
   l = -1 == m;
   l = m >= -2;
   l = m & 3;
@@ -79,7 +79,7 @@ fn operators_on_unsigned(rt: HostRuntime) -> Result<(), Fail> {
         (8, "store 0 SeqCst 5 Long", Told::Done),
         (9, "store 0 SeqCst 2147483648 Long", Told::Done),
         (10, "store 0 SeqCst 1 Long", Told::Done),
-        (11, "store 0 SeqCst 0 Long", Told::Done),
+        (11, "store 0 SeqCst 25 Long", Told::Done),
         (12, "store 0 SeqCst 1 Long", Told::Done),
         (13, "store 0 SeqCst 1 Long", Told::Done),
         (14, "store 0 SeqCst 3 Long", Told::Done),
@@ -144,8 +144,8 @@ int main(void) {
   w = m % 10;
   w = m << 63;
   w = m >> 63;
-  w = -1 < m;
-  w = -1 == m;
+  w = (z < m) + 2 * (m <= z) + 4 * (z > m) + 8 * (m >= -2) + 16 * (m == -1) + 32 * (m != -1);
+  w = m & 3;
   w = -1L > 1u;
   w = -1 > 1u;
   w = z | 9223372036854775808u;
@@ -167,8 +167,8 @@ fn operators_on_unsigned_long(rt: HostRuntime) -> Result<(), Fail> {
         (8, "store 0 SeqCst 5 ULong", Told::Done),
         (9, "store 0 SeqCst 9223372036854775808 ULong", Told::Done),
         (10, "store 0 SeqCst 1 ULong", Told::Done),
-        (11, "store 0 SeqCst 0 ULong", Told::Done),
-        (12, "store 0 SeqCst 1 ULong", Told::Done),
+        (11, "store 0 SeqCst 25 ULong", Told::Done),
+        (12, "store 0 SeqCst 3 ULong", Told::Done),
         (13, "store 0 SeqCst 0 ULong", Told::Done),
         (14, "store 0 SeqCst 1 ULong", Told::Done),
         (15, "store 0 SeqCst 9223372036854775808 ULong", Told::Done),

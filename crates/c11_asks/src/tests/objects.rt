@@ -202,3 +202,80 @@ fn an_operand_has_the_type_of_its_object(rt: HostRuntime) -> Result<(), Fail> {
     ];
     tell(&rt, rt.alloc(), MODIFIED, &rows)
 }
+
+const PLAIN_OPERATORS: &str = "int d, e[2];
+int main(void) {
+  d -= 1;
+  d *= -3;
+  d /= 2;
+  d %= 4;
+  d <<= 4;
+  d >>= 2;
+  d &= 12;
+  d |= 3;
+  d ^= -1;
+  e[d] = d;
+}
+";
+
+#[test]
+fn a_plain_object_takes_each_operator(rt: HostRuntime) -> Result<(), Fail> {
+    let rows = [
+        (0, "begin", Told::Began(0, 0)),
+        (3, "read 0", Told::Int(0)),
+        (3, "write 0 -1 Int", Told::Done),
+        (4, "read 0", Told::Int(-5)),
+        (4, "write 0 15 Int", Told::Done),
+        (5, "read 0", Told::Int(-7)),
+        (5, "write 0 -3 Int", Told::Done),
+        (6, "read 0", Told::Int(-7)),
+        (6, "write 0 -3 Int", Told::Done),
+        (7, "read 0", Told::Int(5)),
+        (7, "write 0 80 Int", Told::Done),
+        (8, "read 0", Told::Int(-9)),
+        (8, "write 0 -3 Int", Told::Done),
+        (9, "read 0", Told::Int(-3)),
+        (9, "write 0 12 Int", Told::Done),
+        (10, "read 0", Told::Int(4)),
+        (10, "write 0 7 Int", Told::Done),
+        (11, "read 0", Told::Int(7)),
+        (11, "write 0 -8 Int", Told::Done),
+        (12, "read 0", Told::Int(2)),
+        (12, "stop Bounds", Told::Last),
+    ];
+    tell(&rt, rt.alloc(), PLAIN_OPERATORS, &rows)
+}
+
+const LINES: &str = "atomic_int a; int d;
+int main(void) {
+  a
+  =
+  d
+  +
+  a;
+  atomic_store
+  (&
+  a,
+  d
+  );
+  d
+  /=
+  a;
+}
+";
+
+#[test]
+fn an_operation_has_the_line_of_its_name(rt: HostRuntime) -> Result<(), Fail> {
+    let rows = [
+        (0, "begin", Told::Began(0, 0)),
+        (5, "read 0", Told::Int(2)),
+        (7, "load 0 SeqCst", Told::Int(3)),
+        (3, "store 0 SeqCst 5 Int", Told::Done),
+        (11, "read 0", Told::Int(6)),
+        (8, "store 0 SeqCst 6 Int", Told::Done),
+        (13, "read 0", Told::Int(6)),
+        (15, "load 0 SeqCst", Told::Int(0)),
+        (14, "stop Divide", Told::Last),
+    ];
+    tell(&rt, rt.alloc(), LINES, &rows)
+}
