@@ -1,54 +1,22 @@
--- A thread that asks goes on to ask.
-use Rattle.std.proofs.Common.{◌≡◌, ℕ, ℤ, ◌<◌, ◌^◌, List, [], ◌∷◌, ◌++◌, length, Some, slice_get, IsTrue, nat_lt, refl, subst, sym, inl, inr, arith}
+-- What the tests need to know of threads that ask.
+use Rattle.std.proofs.Common.{◌≡◌, ℕ, ℤ, ◌<◌, List, [], length, Some, slice_get, IsTrue, nat_lt, refl, subst, sym, inl, inr, arith}
 use Rattle.std.proofs.lemmas.Bool.Decides.{nat_tests}
 use Rattle.std.proofs.lemmas.Option.{slice_get_cases}
 use Rattle.c11_ast.specs.declared.item.Program.{Program}
-use Rattle.c11_events.specs.declared.op.Ask.{Ask}
 use Rattle.c11_events.specs.declared.op.Op.{Op}
 use Rattle.c11_events.specs.declared.op.Op.TheVariants.{Begin}
 use Rattle.c11_events.specs.declared.reply.Reply.{Reply}
 use Rattle.c11_events.specs.declared.reply.Reply.TheVariants.{Began}
-use Rattle.c11_check.specs.declared.entity.Signature.{Signature}
 use Rattle.c11_check.specs.Lies.{signatures_in}
-use Rattle.c11_check.specs.Programs.{HasNoFault}
 use Rattle.c11_flat.specs.Code.{Whole, whole_of}
 use Rattle.c11_meaning.specs.Outcome.{with_reply}
-use Rattle.c11_meaning.specs.Asks.{asks_of}
-use Rattle.c11_meaning.specs.Progress.{AsksAgain, IsBegun, IsReplyTo}
+use Rattle.c11_meaning.specs.Progress.{IsBegun, IsReplyTo}
 use Rattle.c11_machine.specs.Stands.{AsksWhereWanted, CanAsk, Standing, Stands}
-use Rattle.c11_asks.specs.Asking.{IsAsking, IsAskingFor}
+use Rattle.c11_asks.specs.Asking.{IsAsking}
 
 pub may_ask : AsksWhereWanted → (program : Program) (code : Whole) (thread : Standing) → code ≡ whole_of program → IsAsking program thread → CanAsk code thread
 may_ask law program code thread is asking =
     subst (λ (c : Whole). CanAsk c thread) (sym is) (law program asking.1.replies asking.0 thread asking.1.asks asking.1.stands)
-
--- what it asks for, by what its going on says
-pub asked : (program : Program) (code : Whole) (old new : Standing) (ask : Ask) → code ≡ whole_of program → IsAsking program old
-    → ((replies : List Reply) → Stands code old replies → Stands code new replies)
-    → ((p : Program) (replies : List Reply) → code ≡ whole_of p → Stands code old replies → asks_of p replies ≡ Some ask)
-    → IsAskingFor program new ask
-asked program code old new ask is asking keeps asks =
-    let before : Stands code old asking.1.replies = subst (λ (c : Whole). Stands c old asking.1.replies) (sym is) asking.1.stands in
-    record {
-      replies = asking.1.replies;
-      stands = subst (λ (c : Whole). Stands c new asking.1.replies) is (keeps asking.1.replies before);
-      asks = asks program asking.1.replies is before;
-    }
-
--- a reply of the kind of the ask
-pub told : AsksAgain → (program : Program) (old new : Standing) (ask : Ask) (reply : Reply) → length program.items < 2 ^ 32 → HasNoFault program
-    → IsAskingFor program old ask → IsReplyTo (signatures_in program.items) ask.op reply
-    → ((code : Whole) (replies : List Reply) → Stands code old replies → Stands code new (replies ++ reply ∷ []))
-    → IsAsking program new
-told law program old new ask reply few faultless asks fits given =
-    let next = law program asks.replies ask reply few faultless asks.asks fits in (
-      next.0,
-      record {
-        replies = asks.replies ++ reply ∷ [];
-        stands = given (whole_of program) asks.replies asks.stands;
-        asks = next.1;
-      },
-    )
 
 -- a thread that was told nothing asks for its Begin
 pub begins : (program : Program) (thread : Standing) → ((code : Whole) → Stands code thread []) → IsAsking program thread

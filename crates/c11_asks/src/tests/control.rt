@@ -222,6 +222,11 @@ fn tell_main(
 fn the_last_frame_and_the_last_call_are_allowed(rt: HostRuntime) -> Result<(), Fail> {
     let rows = [
         (
+            "int f(int n) { return n < 2 ? n : f(n - 1) + f(n - 2); }\nint main(void) { return f(10); }",
+            2,
+            "end 55",
+        ),
+        (
             "int f(int n) { return n == 0 ? 7 : f(n - 1); }\nint main(void) { return f(62); }",
             2,
             "end 7",

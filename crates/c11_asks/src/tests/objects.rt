@@ -279,3 +279,48 @@ fn an_operation_has_the_line_of_its_name(rt: HostRuntime) -> Result<(), Fail> {
     ];
     tell(&rt, rt.alloc(), LINES, &rows)
 }
+
+const EFFECTS: &str = "atomic_int b[3]; int e[3];
+int f(void *p) { return 0; }
+int main(void) {
+  int x = 0, r[3];
+  b[x++] += x++;
+  e[--x] = x--;
+  r[x++] = x++;
+  atomic_compare_exchange_strong(&b[x--], &r[x--], x--);
+  e[0] = r[1] + r[0];
+  thrd_t s[2];
+  x = 1;
+  thrd_create(&s[x--], f, x);
+  thrd_join(s[++x], &r[x--]);
+  e[2] = r[1];
+  b[0] = b[1] = e[0] = 3;
+  for (int i = 0; i < 2; i++) { int y[2]; e[0] = y[1]; y[1] = 9; }
+  b[r[1]] = f(0);
+}
+";
+
+#[test]
+fn indexes_come_before_values_and_values_before_operations(rt: HostRuntime) -> Result<(), Fail> {
+    let rows = [
+        (0, "begin", Told::Began(1, 0)),
+        (5, "rmw 0 SeqCst Add 1 Int", Told::Int(0)),
+        (6, "write 1 1 Int", Told::Done),
+        (
+            8,
+            "cas 2 SeqCst SeqCst 0 Int 0 Int",
+            Told::Exchanged(6, false),
+        ),
+        (9, "write 0 7 Int", Told::Done),
+        (12, "create 0 0", Told::Created(1)),
+        (13, "join 1", Told::Joined(8)),
+        (14, "write 2 8 Int", Told::Done),
+        (15, "write 0 3 Int", Told::Done),
+        (15, "store 1 SeqCst 3 Int", Told::Done),
+        (15, "store 0 SeqCst 3 Int", Told::Done),
+        (16, "write 0 0 Int", Told::Done),
+        (16, "write 0 0 Int", Told::Done),
+        (17, "stop Bounds", Told::Last),
+    ];
+    tell(&rt, rt.alloc(), EFFECTS, &rows)
+}
