@@ -1,0 +1,4 @@
+mod Places
+mod Extending
+mod Adding
+mod Joining
