@@ -23,7 +23,6 @@ fn word_of(word: RefusalWord) -> &'static str {
         RefusalWord::TooMany => "toomany",
         RefusalWord::Typing => "type",
         RefusalWord::Long => "long",
-        RefusalWord::Form => "form",
     }
 }
 

@@ -78,6 +78,34 @@ impl Checked {
         self.main
     }
 
+    /// The atomic cells, by their numbers.
+    pub fn atomics(&self) -> &[CellInfo]
+        ensures { result.now ≡ self.now.tables.atomics }
+    {
+        self.tables.atomics.as_slice()
+    }
+
+    /// The plain cells, by their numbers.
+    pub fn plains(&self) -> &[CellInfo]
+        ensures { result.now ≡ self.now.tables.plains }
+    {
+        self.tables.plains.as_slice()
+    }
+
+    /// The mutexes, by their numbers.
+    pub fn mutexes(&self) -> &[CellInfo]
+        ensures { result.now ≡ self.now.tables.mutexes }
+    {
+        self.tables.mutexes.as_slice()
+    }
+
+    /// The functions, by their numbers.
+    pub fn functions(&self) -> &[FunctionInfo]
+        ensures { result.now ≡ self.now.tables.functions }
+    {
+        self.tables.functions.as_slice()
+    }
+
     /// The atomic cell with this number.
     pub fn atomic(&self, cell: u32) -> &CellInfo
         requires { cell < length self.now.tables.atomics }

@@ -1,4 +1,6 @@
-pub mod Opened
-pub mod Responded
-pub mod Stepped
-pub mod Taken
+pub mod Lengthened
+pub mod Opening
+pub mod Stepping
+pub mod Sticking
+pub mod Waiting
+pub mod Reading

@@ -1,2 +1,5 @@
+pub mod Execution
+pub mod Steps
+pub mod Waits
+pub mod Marks
 pub mod Sound
-pub mod Memory

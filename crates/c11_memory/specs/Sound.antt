@@ -1,67 +1,66 @@
--- What a memory keeps.
-use Rattle.std.specs.Prelude.{ℕ, suc, ◌≡◌, ◌+◌, ◌<◌, ◌≤◌, ⊤, List, [], ◌∷◌, Option, Some, None, length, slice_get, slice_set, nat_eq, if◌then◌else◌}
-use Rattle.c11_num.specs.Ranges.{TypedNumber}
-use Rattle.c11_events.specs.declared.cells.CellInfo.{CellInfo}
-use Rattle.c11_events.specs.declared.order.Order.TheVariants.{Relaxed}
-use Rattle.c11_events.specs.declared.op.Op.{Op}
-use Rattle.c11_events.specs.declared.op.Op.TheVariants.{AtomicLoad, AtomicStore, Begin, End}
-use Rattle.c11_events.specs.declared.event.Event.{Event}
+-- What is kept of an execution, and what each step does to it.
+use Rattle.std.specs.Prelude.{ℕ, ◌≡◌, ◌<◌, ◌≤◌, ◌+◌, false, List, Option, Some, None, length, map, nat_eq, if◌then◌else◌}
+use Rattle.std.specs.Option.{option_map}
+use Rattle.rand_pcg.specs.Lcg.{Lcg}
 use Rattle.c11_events.specs.declared.entry.Entry.{Entry}
+use Rattle.c11_events.specs.declared.op.Ask.{Ask}
+use Rattle.c11_events.specs.declared.reply.Reply.{Reply}
 use Rattle.c11_events.specs.declared.verdict.Verdict.{Verdict}
-use Rattle.c11_events.specs.declared.verdict.Verdict.TheVariants.{Done, Bound}
+use Rattle.c11_events.specs.declared.verdict.Verdict.TheVariants.{Bound, Race as raced}
 use Rattle.c11_events.specs.EventOf.{events_of}
-use Rattle.c11_events.specs.Events.{At, event_at, read_cell, written_cell}
-use Rattle.c11_events.specs.HappensBefore.{AreOfThread}
-use Rattle.c11_events.specs.Lawful.{Consistent, IsLastStore}
+use Rattle.c11_events.specs.Replies.{thread_limit}
 use Rattle.c11_events.specs.Steps.{step_count}
-use Rattle.c11_events.specs.Values.{written}
-use Rattle.c11_events.specs.Verdicts.{StepVerdict}
-use Rattle.c11_memory.specs.declared.last.LastStore.{LastStore}
+use Rattle.c11_events.specs.Threads.{created}
+use Rattle.c11_history.specs.declared.history.Race.{Race}
+use Rattle.c11_history.specs.Past.{Past}
+use Rattle.c11_memory.specs.declared.marks.Mark.{Mark}
+use Rattle.c11_memory.specs.Execution.{Execution}
+use Rattle.c11_memory.specs.Marks.{ask_of, AreWithin}
+use Rattle.c11_memory.specs.Steps.{AddsEntry}
+use Rattle.c11_memory.specs.Waits.{IsStanding}
 
--- the operations that are taken now, with the cells below this number
-abbrev pub IsSimpleOp : ℕ → Op → Type 0
-IsSimpleOp count Begin = ⊤
-IsSimpleOp count (End value) = ⊤
-IsSimpleOp count (AtomicLoad cell order) = (cell < count) × (order ≡ Relaxed)
-IsSimpleOp count (AtomicStore cell order value) = (cell < count) × (order ≡ Relaxed)
-IsSimpleOp count _ = ⊥
+abbrev pub asks_of : List (Option Mark) → List (Option Ask)
+asks_of marks = map (option_map ask_of) marks
 
--- the last stores after an operation with this number
-abbrev pub noted : List LastStore → Op → ℕ → List LastStore
-noted last (AtomicStore cell order value) number = slice_set last cell (record { number = number; value = value })
-noted last _ number = last
+-- the execution of these parts
+abbrev pub execution : Past → ℕ → ℕ → Lcg → Option Verdict → List (Option Mark) → Execution
+execution past seed bound generator verdict marks = record {
+  setting = past.setting;
+  mutexes = past.mutexes;
+  seed = seed;
+  bound = bound;
+  generator = generator;
+  history = past.entries;
+  verdict = verdict;
+  marks = asks_of marks;
+}
 
-abbrev pub first_lasts_from : ℕ → List CellInfo → List LastStore
-first_lasts_from cell [] = []
-first_lasts_from cell (info ∷ more) = record { number = cell + 1; value = info.initial } ∷ first_lasts_from (suc cell) more
+-- a history that goes on: nothing raced, and each thread has a mark
+pub record GoesOn (past : Past) : Type 0 where
+  pub quiet : past.raced ≡ false
+  pub few_threads : created (events_of past.entries) < thread_limit
 
--- before the first step the Init of each cell is its last store
-abbrev pub first_lasts : List CellInfo → List LastStore
-first_lasts cells = first_lasts_from 0 cells
+-- what holds of the parts of an execution
+pub record IsSound (m : Execution) (past : Past) (steps : ℕ) (marks : List (Option Mark)) : Type 0 where
+  pub few_steps : m.bound ≤ 10000
+  pub counted : steps ≡ step_count past.entries
+  pub room : past.room + steps ≡ m.bound
+  pub each_thread : length marks ≡ thread_limit
+  pub within : AreWithin past marks
+  pub going : m.verdict ≡ None → GoesOn past
+  pub stands : IsStanding m
 
--- how a run stands after its last operation, with so many steps
-abbrev pub ended_by : ℕ → ℕ → Op → Option Verdict
-ended_by steps bound (End value) = Some Done
-ended_by steps bound _ = if nat_eq steps bound then Some Bound else None
+-- the verdict after the entry of this number: by the race with it, else by what it says, else by the bound
+abbrev pub ended : Option Race → ℕ → Option Verdict → ℕ → ℕ → Option Verdict
+ended (Some race) number said steps bound = Some (raced race.first number race.cell)
+ended None number (Some verdict) steps bound = Some verdict
+ended None number None steps bound = if nat_eq steps bound then Some Bound else None
 
--- the kept store is the last of its cell, and wrote the kept value whatever it read
-pub record IsKeptLast (events : List Event) (cell : ℕ) (l : LastStore) : Type 0 where
-  pub last : IsLastStore events cell l.number
-  pub value : At events l.number (λ e. (old : TypedNumber) → written e.kind old ≡ l.value)
-
--- no event is a plain access
-abbrev pub HasNoPlain : List Event → Type 0
-HasNoPlain events = (a : ℕ) (e : Event) → event_at events a ≡ Some e → (read_cell e.kind ≡ None) × (written_cell e.kind ≡ None)
-
-pub record IsSound (cells : List CellInfo) (bound : ℕ) (entries : List Entry) (steps : ℕ) (last : List LastStore) (verdict : Option Verdict) : Type 0 where
-  pub length_is : length entries ≡ length cells + steps
-  pub few_cells : length cells ≤ 4096
-  pub few_steps : bound ≤ 10000
-  pub within : steps ≤ bound
-  pub counted : steps ≡ step_count entries
-  pub each_cell : length last ≡ length cells
-  pub kept : (cell : ℕ) (l : LastStore) → slice_get last cell ≡ Some l → IsKeptLast (events_of entries) cell l
-  pub lone : AreOfThread (events_of entries) 0
-  pub no_plain : HasNoPlain (events_of entries)
-  pub consistent : Consistent (events_of entries)
-  pub stands : StepVerdict bound entries verdict
+-- the thread makes its next step, which reads this store of these; no word is used
+pub record Makes (old new : Execution) (thread : ℕ) (ask : Ask) (offered : List ℕ) (from : ℕ) (reply : Reply) : Type 0 where
+  pub entry : Entry
+  pub adds : AddsEntry old new thread ask entry
+  pub offers : entry.offered ≡ offered
+  pub read : entry.from ≡ from
+  pub undrawn : new.generator ≡ old.generator
+  pub told : entry.reply ≡ reply

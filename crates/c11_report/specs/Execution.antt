@@ -19,6 +19,7 @@ use Rattle.c11_events.specs.declared.reply.FaultKind.TheVariants as fault
 use Rattle.c11_events.specs.declared.verdict.Verdict.{Verdict}
 use Rattle.c11_events.specs.declared.verdict.Verdict.TheVariants as verdict
 use Rattle.c11_events.specs.declared.entry.Entry.{Entry}
+use Rattle.c11_check.specs.declared.checked.Checked.{Checked}
 use Rattle.c11_report.specs.declared.object.Objects.{Objects}
 use Rattle.c11_report.specs.declared.text.Mode.{Mode}
 use Rattle.c11_report.specs.declared.text.Mode.TheVariants as mode
@@ -175,6 +176,10 @@ abbrev pub execution_bytes : Names → Mode → ℕ → ℕ → List Entry → V
 execution_bytes names mode seed bound entries verdict =
     head_bytes mode seed bound ++ flat_map (entry_bytes names) entries ++ codes "verdict " ++ verdict_bytes names verdict ++ 10 ∷ []
 
+-- those of a checked program
+abbrev pub names_of : Checked → Names
+names_of checked = record { atomic = checked.tables.atomics; plain = checked.tables.plains; mutexes = checked.tables.mutexes; functions = checked.tables.functions }
+
 -- the objects of a program as lists
-abbrev pub names_of : Objects → Names
-names_of objects = record { atomic = objects.atomic.now; plain = objects.plain.now; mutexes = objects.mutexes.now; functions = objects.functions.now }
+abbrev pub names_in : Objects → Names
+names_in objects = record { atomic = objects.atomic.now; plain = objects.plain.now; mutexes = objects.mutexes.now; functions = objects.functions.now }

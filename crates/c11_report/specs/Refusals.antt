@@ -2,7 +2,7 @@
 use Rattle.std.specs.Prelude.{ℕ, ◌≡◌, Bool, true, false, List, [], ◌∷◌, ◌++◌, Option, Some, None, codes}
 use Rattle.std.specs.Fmt.{decimal}
 use Rattle.c11_report.specs.declared.refusal.RefusalWord.{RefusalWord}
-use Rattle.c11_report.specs.declared.refusal.RefusalWord.TheVariants.{Byte, Literal, Comment, Directive, Item, Unknown, Twice, Kind, Arguments, Order, NoMain, Size, TooMany, Typing, Long, Form}
+use Rattle.c11_report.specs.declared.refusal.RefusalWord.TheVariants.{Byte, Literal, Comment, Directive, Item, Unknown, Twice, Kind, Arguments, Order, NoMain, Size, TooMany, Typing, Long}
 use Rattle.c11_report.specs.declared.refusal.Refusal.{Refusal}
 
 abbrev pub word_bytes : RefusalWord → List ℕ
@@ -21,12 +21,10 @@ word_bytes Size = codes "size"
 word_bytes TooMany = codes "toomany"
 word_bytes Typing = codes "type"
 word_bytes Long = codes "long"
-word_bytes Form = codes "form"
 
 -- whether the text of the word has a place
 abbrev pub has_place : RefusalWord → Bool
 has_place Long = false
-has_place Form = false
 has_place _ = true
 
 -- a line and a column

@@ -1,10 +1,11 @@
 ghost use Rattle.std.specs.Prelude.{◌≡◌, ◌++◌, ◌∷◌, [], OnOk, IfOk, flat_map};
-ghost use Rattle.c11_report.specs.Execution.{mode_bytes, head_bytes, entry_bytes, verdict_bytes, execution_bytes, names_of};
+ghost use Rattle.c11_report.specs.Execution.{mode_bytes, head_bytes, entry_bytes, verdict_bytes, execution_bytes, names_of, names_in};
 
 use crate::line::push_entry;
-use crate::object::{Objects, push_cell};
+use crate::object::{Objects, objects_of, push_cell};
 use crate::spelling::fault_word;
 use crate::text::{Mode, Text};
+use c11_check::Checked;
 use c11_events::{Entry, Verdict};
 use c11_num::NoMemory;
 use std::alloc::Global;
@@ -17,15 +18,30 @@ pub struct Head {
     pub steps: u32,
 }
 
-/// The text of an execution.
+/// The text of an execution of the program: its head, a line for each entry, and its verdict.
+///
+/// The only error is that memory ran out.
 pub fn execution_text(
+    alloc: Global,
+    checked: &Checked,
+    head: &Head,
+    entries: &[Entry],
+    verdict: &Verdict,
+) -> Result<Vec<u8>, NoMemory>
+    ensures { IfOk result (λ text. text.items ≡ execution_bytes (names_of checked.now) head.now.mode head.now.seed head.now.steps entries.now verdict.now) }
+{
+    text_over(alloc, objects_of(checked), *head, entries, *verdict)
+}
+
+// The same over the objects that the text names.
+pub(crate) fn text_over(
     alloc: Global,
     objects: Objects,
     head: Head,
     entries: &[Entry],
     verdict: Verdict,
 ) -> Result<Vec<u8>, NoMemory>
-    ensures { IfOk result (λ text. text.items ≡ execution_bytes (names_of objects.entry) head.mode head.seed head.steps entries.now verdict) }
+    ensures { IfOk result (λ text. text.items ≡ execution_bytes (names_in objects.entry) head.mode head.seed head.steps entries.now verdict) }
 {
     let mut text = Text::new(alloc);
     push_head(&mut text, head)?;
@@ -58,7 +74,7 @@ fn mode_word(mode: Mode) -> &'static str
 }
 
 fn push_entries(text: &mut Text, objects: Objects, entries: &[Entry]) -> Result<(), NoMemory>
-    ensures { OnOk result (text.new ≡ text.old ++ flat_map (entry_bytes (names_of objects.entry)) entries.now) }
+    ensures { OnOk result (text.new ≡ text.old ++ flat_map (entry_bytes (names_in objects.entry)) entries.now) }
 {
     for entry in entries {
         push_entry(text, objects, entry)?;
@@ -67,7 +83,7 @@ fn push_entries(text: &mut Text, objects: Objects, entries: &[Entry]) -> Result<
 }
 
 fn push_verdict(text: &mut Text, objects: Objects, verdict: Verdict) -> Result<(), NoMemory>
-    ensures { OnOk result (text.new ≡ text.old ++ verdict_bytes (names_of objects.entry) verdict) }
+    ensures { OnOk result (text.new ≡ text.old ++ verdict_bytes (names_in objects.entry) verdict) }
 {
     match verdict {
         Verdict::Done => text.word("done"),

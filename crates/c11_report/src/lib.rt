@@ -13,6 +13,5 @@ mod tests;
 mod text;
 
 pub use execution::{Head, execution_text};
-pub use object::Objects;
 pub use refusal::{Refusal, RefusalWord, refusal_text};
 pub use text::Mode;

@@ -1,6 +1,6 @@
 ghost use Rattle.std.specs.Prelude.{◌≡◌, ◌++◌, ◌<◌, [], OnOk, flat_map, codes};
 ghost use Rattle.std.specs.Fmt.{decimal, signed_decimal};
-ghost use Rattle.c11_report.specs.Execution.{hex_digit, hex_bytes, reply_bytes, began_bytes, access_bytes, op_bytes, told_bytes, read_bytes, entry_bytes, names_of, cell_bytes, order_bytes, exchange_word};
+ghost use Rattle.c11_report.specs.Execution.{hex_digit, hex_bytes, reply_bytes, began_bytes, access_bytes, op_bytes, told_bytes, read_bytes, entry_bytes, names_in, cell_bytes, order_bytes, exchange_word};
 
 use crate::object::{Objects, push_cell, push_function};
 use crate::spelling::{kind_word, order_word, stop_word};
@@ -32,7 +32,7 @@ fn push_access(
     cell: u32,
     order: Order,
 ) -> Result<(), NoMemory>
-    ensures { OnOk result (text.new ≡ text.old ++ access_bytes (names_of objects.entry) word.now cell order) }
+    ensures { OnOk result (text.new ≡ text.old ++ access_bytes (names_in objects.entry) word.now cell order) }
 {
     push_object(text, word, objects.atomic, cell)?;
     text.word(" ")?;
@@ -117,7 +117,7 @@ fn push_told(text: &mut Text, number: i128, outcome: &str) -> Result<(), NoMemor
 
 // Adds the words of an operation on atomic cells.
 fn push_op(text: &mut Text, objects: Objects, op: &Op) -> Result<(), NoMemory>
-    ensures { OnOk result (text.new ≡ text.old ++ op_bytes (names_of objects.entry) op.now) }
+    ensures { OnOk result (text.new ≡ text.old ++ op_bytes (names_in objects.entry) op.now) }
 {
     match op {
         Op::Init { cell, value } => {
@@ -193,7 +193,7 @@ fn push_op(text: &mut Text, objects: Objects, op: &Op) -> Result<(), NoMemory>
 
 // Adds the words for the reply to an operation.
 fn push_outcome(text: &mut Text, objects: Objects, op: &Op, reply: Reply) -> Result<(), NoMemory>
-    ensures { OnOk result (text.new ≡ text.old ++ told_bytes (names_of objects.entry) op.now reply) }
+    ensures { OnOk result (text.new ≡ text.old ++ told_bytes (names_in objects.entry) op.now reply) }
 {
     match op {
         Op::Lock { .. } => Ok(()),
@@ -204,7 +204,7 @@ fn push_outcome(text: &mut Text, objects: Objects, op: &Op, reply: Reply) -> Res
 
 // Adds the function that a thread runs, and its argument.
 fn push_began(text: &mut Text, objects: Objects, reply: Reply) -> Result<(), NoMemory>
-    ensures { OnOk result (text.new ≡ text.old ++ began_bytes (names_of objects.entry) reply) }
+    ensures { OnOk result (text.new ≡ text.old ++ began_bytes (names_in objects.entry) reply) }
 {
     match reply {
         Reply::Began { function, argument } => {
@@ -241,7 +241,7 @@ fn push_stores(text: &mut Text, stores: &[u32]) -> Result<(), NoMemory>
 
 // Adds the line of an entry.
 pub(crate) fn push_entry(text: &mut Text, objects: Objects, entry: &Entry) -> Result<(), NoMemory>
-    ensures { OnOk result (text.new ≡ text.old ++ entry_bytes (names_of objects.entry) entry.now) }
+    ensures { OnOk result (text.new ≡ text.old ++ entry_bytes (names_in objects.entry) entry.now) }
 {
     push_place(text, entry.number, entry.thread, entry.line)?;
     push_op(text, objects, &entry.op)?;

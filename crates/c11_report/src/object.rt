@@ -1,17 +1,30 @@
 ghost use Rattle.std.specs.Prelude.{◌≡◌, ◌++◌, OnOk};
-ghost use Rattle.c11_report.specs.Execution.{index_bytes, cell_bytes, function_bytes};
+ghost use Rattle.c11_report.specs.Execution.{index_bytes, cell_bytes, function_bytes, names_in, names_of};
 
 use crate::text::Text;
+use c11_check::Checked;
 use c11_events::{CellInfo, FunctionInfo};
 use c11_num::NoMemory;
 
-/// What a text takes from the program: its cells, mutexes and functions by their numbers.
+// What a text takes from the program: its cells, mutexes and functions by their numbers.
 #[derive(Clone, Copy)]
-pub struct Objects<'a> {
-    pub atomic: &'a [CellInfo],
-    pub plain: &'a [CellInfo],
-    pub mutexes: &'a [CellInfo],
-    pub functions: &'a [FunctionInfo],
+pub(crate) struct Objects<'a> {
+    pub(crate) atomic: &'a [CellInfo],
+    pub(crate) plain: &'a [CellInfo],
+    pub(crate) mutexes: &'a [CellInfo],
+    pub(crate) functions: &'a [FunctionInfo],
+}
+
+// The objects of a checked program.
+pub(crate) fn objects_of<'a>(checked: &'a Checked) -> Objects<'a>
+    ensures { names_in result ≡ names_of checked.now }
+{
+    Objects {
+        atomic: checked.atomics(),
+        plain: checked.plains(),
+        mutexes: checked.mutexes(),
+        functions: checked.functions(),
+    }
 }
 
 // Adds the object's name.

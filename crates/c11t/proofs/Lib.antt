@@ -1,10 +1,3 @@
 pub mod Answering
-pub mod FormLemmas
-pub mod LegalRuns
-pub mod NumberLemmas
-pub mod OneRuns
-pub mod Running
 pub mod Settings
-pub mod Sizes
 pub mod WordsLemmas
-pub mod Refusing

@@ -5,9 +5,9 @@ use Rattle.std.specs.Str.{bytes_eq}
 use Rattle.std.specs.Str.Parse.{digits_value}
 use Rattle.std.proofs.lemmas.Bool.Decides.{nat_tests}
 use Rattle.c11t.specs.declared.words.Command.{Command}
-use Rattle.c11t.specs.declared.words.Command.TheVariants.{Run}
+use Rattle.c11t.specs.declared.words.Command.TheVariants.{Help, Run}
 use Rattle.c11t.specs.declared.words.Limits.{Limits}
-use Rattle.c11t.specs.Words.{Pair, is_numeral, number_within, setting, step_limits, seed_limits, values_of, run_with, run_of, are_known, command_of, pairs_of, reading, HasGoodBound}
+use Rattle.c11t.specs.Words.{Pair, is_numeral, number_within, setting, step_limits, seed_limits, values_of, run_with, help_of, run_of, are_known, command_of, pairs_of, reading, HasGoodBound}
 
 -- a number that is given lies within the limits
 given_within : (limits : Limits) (value : List ℕ) (n : ℕ) → number_within limits value ≡ Some n → (limits.least ≤ n) × (n ≤ limits.most)
@@ -47,13 +47,19 @@ pub reading_steps : (words : List (List ℕ)) (seed steps : ℕ) → reading wor
 reading_steps [] seed steps is = absurd (let clash : None ≡ Some (Run seed steps) = is in cc)
 reading_steps (name ∷ options) seed steps is = by_parity (length options % 2 == 0) is
   where
-    by_name : (b : Bool) → (if b then run_of (pairs_of options) else None) ≡ Some (Run seed steps) → (0 < steps) × (steps ≤ 10000)
-    by_name true is = run_steps (pairs_of options) seed steps is
-    by_name false is = absurd (let clash : None ≡ Some (Run seed steps) = is in cc)
+    by_help : (pairs : List Pair) → help_of pairs ≡ Some (Run seed steps) → (0 < steps) × (steps ≤ 10000)
+    by_help [] is = absurd (let clash : Some Help ≡ Some (Run seed steps) = is in cc)
+    by_help (pair ∷ more) is = absurd (let clash : None ≡ Some (Run seed steps) = is in cc)
+
+    by_name : (b d : Bool) → (if b then run_of (pairs_of options) else (if d then help_of (pairs_of options) else None)) ≡ Some (Run seed steps) → (0 < steps) × (steps ≤ 10000)
+    by_name true d is = run_steps (pairs_of options) seed steps is
+    by_name false true is = by_help (pairs_of options) is
+    by_name false false is = absurd (let clash : None ≡ Some (Run seed steps) = is in cc)
 
     by_parity : (b : Bool) → (if b then command_of name (pairs_of options) else None) ≡ Some (Run seed steps) → (0 < steps) × (steps ≤ 10000)
-    by_parity true is = by_name (bytes_eq name (codes "run")) is
+    by_parity true is = by_name (bytes_eq name (codes "run")) (bytes_eq name (codes "help")) is
     by_parity false is = absurd (let clash : None ≡ Some (Run seed steps) = is in cc)
 
 pub reading_bound : (words : List (List ℕ)) (command : Command) → reading words ≡ Some command → HasGoodBound command
+reading_bound words Help is = tt
 reading_bound words (Run seed steps) is = reading_steps words seed steps is

@@ -1,10 +1,10 @@
 -- What the words of a command line ask for, and what the program ends with. A word is the list of its bytes.
-use Rattle.std.specs.Prelude.{ℕ, ◌<◌, ◌≤◌, Bool, ◌&&◌, ◌==◌, ◌%◌, List, [], ◌∷◌, length, map, filter, Option, Some, None, nat_lt, nat_le, codes, if◌then◌else◌}
+use Rattle.std.specs.Prelude.{ℕ, ⊤, ◌<◌, ◌≤◌, Bool, ◌&&◌, ◌==◌, ◌%◌, List, [], ◌∷◌, length, map, filter, Option, Some, None, nat_lt, nat_le, codes, if◌then◌else◌}
 use Rattle.std.specs.List.{list_all, list_any}
 use Rattle.std.specs.Str.{bytes_eq, all_ascii_digits}
 use Rattle.std.specs.Str.Parse.{digits_value}
 use Rattle.c11t.specs.declared.words.Command.{Command}
-use Rattle.c11t.specs.declared.words.Command.TheVariants.{Run}
+use Rattle.c11t.specs.declared.words.Command.TheVariants.{Help, Run}
 use Rattle.c11t.specs.declared.words.Limits.{Limits}
 use Rattle.c11t.specs.declared.words.Status.{Status}
 use Rattle.c11t.specs.declared.words.Status.TheVariants.{Done, Found, Bound, Refused, Usage, ReadFault, WriteFault, NoMemory}
@@ -73,9 +73,14 @@ run_of pairs = if are_known (codes "--seed" ∷ codes "--steps" ∷ []) pairs
     then run_with (setting seed_limits (values_of (codes "--seed") pairs)) (setting step_limits (values_of (codes "--steps") pairs))
     else None
 
+-- `help`, which has no options
+abbrev pub help_of : List Pair → Option Command
+help_of [] = Some Help
+help_of (pair ∷ more) = None
+
 -- the command of that name with these options
 abbrev pub command_of : List ℕ → List Pair → Option Command
-command_of name pairs = if bytes_eq name (codes "run") then run_of pairs else None
+command_of name pairs = if bytes_eq name (codes "run") then run_of pairs else (if bytes_eq name (codes "help") then help_of pairs else None)
 
 -- what the words ask for: a command, and after it options in pairs
 abbrev pub reading : List (List ℕ) → Option Command
@@ -84,4 +89,5 @@ reading (name ∷ options) = if length options % 2 == 0 then command_of name (pa
 
 -- the bound on steps of a run lies within its limits
 abbrev pub HasGoodBound : Command → Type 0
+HasGoodBound Help = ⊤
 HasGoodBound (Run seed steps) = (0 < steps) × (steps ≤ 10000)

@@ -1,19 +1,23 @@
-ghost use Rattle.std.specs.Prelude.{◌≡◌, ◌≢◌, ◌<◌, ◌≤◌, ◌⊎◌, List, ℕ, Some, IfOk, OnOk, IfErr, ⊤};
+ghost use Rattle.std.specs.Prelude.{◌≡◌, ◌≢◌, ◌<◌, ◌≤◌, ◌⊎◌, ◌↔◌, List, ℕ, Some, IsTrue, IfOk, OnOk, IfErr, length};
 ghost use Rattle.std.specs.Io.KnownBytes.{IsAtEnd};
+ghost use Rattle.c11_ast.specs.declared.item.Program.{Program};
 ghost use Rattle.c11_io.specs.Causes.{Rose};
 ghost use Rattle.c11_io.specs.Whole.{OneRose};
-ghost use Rattle.c11t.specs.declared.form.Statement.{Statement};
-ghost use Rattle.c11t.specs.Answers.{status_of, EndsRun, IsDue, IsPrintedRun, PrintsRun, PrintsRefusal, PrintsPart, Writes};
-ghost use Rattle.c11t.specs.FirstForm.{IsWritten};
+ghost use Rattle.c11_report.specs.declared.refusal.Refusal.{Refusal};
+ghost use Rattle.c11_report.specs.Refusals.{has_place, HasSome, refusal_bytes};
+ghost use Rattle.c11_accepts.specs.Texts.{Accepts, IsRefusedAs};
+ghost use Rattle.c11t.specs.Answers.{status_of, EndsRun, HasDueCause, IsDue, IsRefusalOf, IsRunOf, IsRunText, PrintsRun, PrintsRefusal, PrintsPart, Writes};
 
-use crate::form::{FirstForm, FormStop, read_form};
-use crate::run::make_run;
 use crate::words::Status;
+use c11_accepts::laws::not_both;
 use c11_accepts::{AcceptStop, accept};
-use c11_events::{FunctionInfo, Verdict};
+use c11_check::Checked;
+use c11_events::Verdict;
 use c11_io::{ReadStop, Sink, Source, read_all, write_all};
-use c11_num::{Name, NoMemory};
-use c11_report::{Head, Mode, Objects, Refusal, RefusalWord, execution_text, refusal_text};
+use c11_lower::lower;
+use c11_num::NoMemory;
+use c11_report::{Head, Mode, Refusal, RefusalWord, execution_text, refusal_text};
+use c11_run::run;
 use std::alloc::Global;
 
 /// Executes the program that the source holds, and writes its execution to the sink, or why it is refused.
@@ -33,14 +37,14 @@ pub fn run_command<S: Source, K: Sink>(
     ensures headline { EndsRun result
         → PrintsRun (S.left source.old) (S.left source.new) seed steps result (K.taken sink.old) (K.taken sink.new) }
     ensures refused { result ≡ Status.Refused
-        → PrintsRefusal (S.left source.old) result (K.taken sink.old) (K.taken sink.new) }
+        → PrintsRefusal (S.left source.old) (S.left source.new) result (K.taken sink.old) (K.taken sink.new) }
 
     // The faults, with what is left then.
     ensures read_fault { result ≡ Status.ReadFault
         → Rose (S.faults source.old) (S.faults source.new) × (sink.new ≡ sink.old) }
     ensures write_fault { result ≡ Status.WriteFault
         → OneRose (K.faults sink.old) (K.faults sink.new) (K.empties sink.old) (K.empties sink.new)
-        × PrintsPart (S.left source.old) seed steps (K.taken sink.old) (K.taken sink.new) }
+        × PrintsPart (S.left source.old) (S.left source.new) seed steps (K.taken sink.old) (K.taken sink.new) }
     ensures no_memory { result ≡ Status.NoMemory → sink.new ≡ sink.old }
     ensures no_usage { result ≢ Status.Usage }
 
@@ -49,16 +53,17 @@ pub fn run_command<S: Source, K: Sink>(
     ensures sink_kept { result ≢ Status.WriteFault
         → (K.faults sink.new ≡ K.faults sink.old) × (K.empties sink.new ≡ K.empties sink.old) }
 
-    // Where the text is a program's and nothing fails, there is a run, if there is memory.
-    ensures complete { (text names : List ℕ) (statements : List Statement) → S.left source.old ≡ Some text → IsWritten text names statements
+    // Where the text is accepted and nothing fails, there is a run, if there is memory.
+    ensures complete { (text : List ℕ) (program : Program) → S.left source.old ≡ Some text → Accepts text program
         → (Rose (S.faults source.old) (S.faults source.new) → ⊥) → (Rose (K.faults sink.old) (K.faults sink.new) → ⊥)
         → (Rose (K.empties sink.old) (K.empties sink.new) → ⊥) → EndsRun result ⊎ (result ≡ Status.NoMemory) }
 
     // Where it is refused and nothing fails, the refusal is written, if there is memory.
-    ensures refuses { (text : List ℕ) (refusal : Refusal) → S.left source.old ≡ Some text → IsRefused text refusal
+    ensures refuses { (text : List ℕ) (refusal : Refusal) → S.left source.old ≡ Some text → IsRefusedAs text refusal
         → (Rose (S.faults source.old) (S.faults source.new) → ⊥) → (Rose (K.faults sink.old) (K.faults sink.new) → ⊥)
         → (Rose (K.empties sink.old) (K.empties sink.new) → ⊥) → (result ≡ Status.Refused) ⊎ (result ≡ Status.NoMemory) }
 {
+    not_both();
     match text_due(alloc, seed, steps, source) {
         Ok(due) => answer(sink, &due),
         Err(DueStop::Fault) => Status::ReadFault,
@@ -109,8 +114,7 @@ fn answer<K: Sink>(sink: &mut K, due: &Due) -> Status
 fn text_due<S: Source>(alloc: Global, seed: u64, steps: u32, source: &mut S) -> Result<Due, DueStop>
     requires some_step { 0 < steps }
     requires few_steps { steps ≤ 10000 }
-    ensures due { IfOk result (λ due. IsDue (S.left source.old) seed steps due.status due.text.items) }
-    ensures read { IfOk result (λ due. EndsRun due.status → IsAtEnd (S.left source.new)) }
+    ensures due { IfOk result (λ due. IsDue (S.left source.old) (S.left source.new) seed steps due.status due.text.items) }
     ensures kept { OnOk result (S.faults source.new ≡ S.faults source.old) }
     ensures stop { IfErr result (HasDueCause (S.faults source.old) (S.faults source.new)) }
 {
@@ -126,27 +130,11 @@ fn text_due<S: Source>(alloc: Global, seed: u64, steps: u32, source: &mut S) -> 
 fn text_due_for(alloc: Global, text: &[u8], seed: u64, steps: u32) -> Result<Due, DueStop>
     requires some_step { 0 < steps }
     requires few_steps { steps ≤ 10000 }
-    ensures due { IfOk result (λ due. IsDue (Some text.now) seed steps due.status due.text.items) }
-    ensures stop { IfErr result (λ stop. stop ≡ DueStop.NoMemory) }
-{
-    match read_form(alloc, text) {
-        Ok(form) => match print_run(alloc, text, &form, seed, steps) {
-            Ok(due) => Ok(due),
-            Err(_) => Err(DueStop::NoMemory),
-        },
-        Err(FormStop::Form) => refusal_due(alloc, text),
-        Err(FormStop::NoMemory) => Err(DueStop::NoMemory),
-    }
-}
-
-// What is due for a text that is not of the first form.
-fn refusal_due(alloc: Global, text: &[u8]) -> Result<Due, DueStop>
-    requires { IsUnwritten text.now }
-    ensures due { IfOk result (λ due. IsPrintedRefusal (Some text.now) due.status due.text.items) }
+    ensures due { IfOk result (λ due. IsRunOf text.now seed steps due.status due.text.items ⊎ IsRefusalOf text.now due.status due.text.items) }
     ensures stop { IfErr result (λ stop. stop ≡ DueStop.NoMemory) }
 {
     match accept(alloc, text) {
-        Ok(_checked) => refusal(alloc, OTHER_FORM),
+        Ok(checked) => run_due(alloc, &checked, seed, steps),
         Err(AcceptStop::Refused(why)) => refusal(alloc, why),
         Err(AcceptStop::NoMemory) => Err(DueStop::NoMemory),
     }
@@ -155,12 +143,6 @@ fn refusal_due(alloc: Global, text: &[u8]) -> Result<Due, DueStop>
 // The refusal of a text of too many bytes.
 const TOO_LONG: Refusal = Refusal {
     word: RefusalWord::Long,
-    place: None,
-};
-
-// The refusal of a program that is not executed yet.
-const OTHER_FORM: Refusal = Refusal {
-    word: RefusalWord::Form,
     place: None,
 };
 
@@ -179,53 +161,35 @@ fn refusal(alloc: Global, why: Refusal) -> Result<Due, DueStop>
     }
 }
 
-// The text of the run of a program.
-fn print_run(
-    alloc: Global,
-    text: &[u8],
-    form: &FirstForm,
-    seed: u64,
-    steps: u32,
-) -> Result<Due, NoMemory>
-    requires written { IsWritten text.now form.now.names.items form.now.statements.items }
+// What is due for a program.
+fn run_due(alloc: Global, checked: &Checked, seed: u64, steps: u32) -> Result<Due, DueStop>
     requires some_step { 0 < steps }
     requires few_steps { steps ≤ 10000 }
-    ensures { IfOk result (λ due. IsPrintedRun (Some text.now) seed steps due.status due.text.items) }
+    ensures due { IfOk result (λ due. IsRunText checked.now seed steps due.status due.text.items) }
+    ensures stop { IfErr result (λ stop. stop ≡ DueStop.NoMemory) }
 {
-    let run = make_run(alloc, form, seed, steps)?;
-    let functions = [main_of(alloc, form)?];
-    let objects = Objects {
-        atomic: run.table.cells.as_slice(),
-        plain: &[],
-        mutexes: &[],
-        functions: &functions,
-    };
+    match print_run(alloc, checked, seed, steps) {
+        Ok(due) => Ok(due),
+        Err(_) => Err(DueStop::NoMemory),
+    }
+}
+
+// The text of the run of a program.
+fn print_run(alloc: Global, checked: &Checked, seed: u64, steps: u32) -> Result<Due, NoMemory>
+    requires some_step { 0 < steps }
+    requires few_steps { steps ≤ 10000 }
+    ensures { IfOk result (λ due. IsRunText checked.now seed steps due.status due.text.items) }
+{
+    let code = lower(alloc, checked)?;
+    let run = run(alloc, checked, &code, seed, steps)?;
     let head = Head {
         mode: Mode::Run,
         seed,
         steps,
     };
-    let text = execution_text(alloc, objects, head, run.memory.history(), run.verdict)?;
+    let text = execution_text(alloc, checked, &head, run.entries.as_slice(), &run.verdict)?;
     Ok(Due {
         text,
         status: status_of(run.verdict),
     })
 }
-
-// What a text calls the one function of a program.
-fn main_of(alloc: Global, form: &FirstForm) -> Result<FunctionInfo, NoMemory>
-    requires { length form.now.names.items ≤ 4096 }
-    ensures { IfOk result (λ info. (info.name ≡ codes "main") × (info.line ≡ length form.now.names.items + 2)) }
-{
-    Ok(FunctionInfo {
-        name: Name::new(Vec::from_slice(alloc, b"main")?),
-        line: form.names.len() as u32 + 2,
-    })
-}
-
-ghost use Rattle.std.specs.Prelude.{◌+◌, length, codes};
-ghost use Rattle.c11t.specs.Answers.{HasDueCause};
-ghost use Rattle.c11t.specs.Answers.{IsUnwritten, IsRefused, IsPrintedRefusal};
-ghost use Rattle.c11_report.specs.declared.refusal.Refusal.{Refusal};
-ghost use Rattle.std.specs.Prelude.{◌↔◌, IsTrue};
-ghost use Rattle.c11_report.specs.Refusals.{has_place, HasSome, refusal_bytes};

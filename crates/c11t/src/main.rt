@@ -2,9 +2,6 @@
 #![tactic(auto)]
 
 mod command;
-mod form;
-mod laws;
-mod run;
 #[cfg(test)]
 mod tests;
 mod top;

@@ -3,7 +3,7 @@ ghost use Rattle.std.specs.Prelude.{◌≡◌, ◌≤◌, ◌∷◌, [], map, st
 ghost use Rattle.std.specs.List.{list_any};
 ghost use Rattle.std.specs.Str.{bytes_eq};
 ghost use Rattle.std.specs.Str.Parse.{digits_value};
-ghost use Rattle.c11t.specs.Words.{exit_number, pairs_of, are_known, values_of, is_numeral, number_within, setting, run_of, command_of, reading};
+ghost use Rattle.c11t.specs.Words.{exit_number, pairs_of, are_known, values_of, is_numeral, number_within, setting, help_of, run_of, command_of, reading};
 
 /// How the program ended.
 #[derive(Clone, Copy, Debug, PartialEq, Eq)]
@@ -38,6 +38,8 @@ impl Status {
 /// What the words of a command line ask for.
 #[derive(Clone, Copy, Debug, PartialEq, Eq)]
 pub enum Command {
+    /// How the program is called.
+    Help,
     /// One run.
     Run {
         /// What its choices are drawn from.
@@ -87,7 +89,20 @@ pub fn read_words(words: &[String]) -> Option<Command>
 fn command_of(name: &str, options: &[String]) -> Option<Command>
     ensures { result ≡ command_of name.now (pairs_of (map string_bytes options.now)) }
 {
-    if name == "run" { run_of(options) } else { None }
+    match name {
+        "run" => run_of(options),
+        "help" => help_of(options),
+        _ => None,
+    }
+}
+
+fn help_of(options: &[String]) -> Option<Command>
+    ensures { result ≡ help_of (pairs_of (map string_bytes options.now)) }
+{
+    match options {
+        [_, _, ..] => None,
+        _ => Some(Command::Help),
+    }
 }
 
 fn run_of(options: &[String]) -> Option<Command>

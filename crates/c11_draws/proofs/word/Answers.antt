@@ -1,7 +1,7 @@
-use Rattle.std.proofs.Common.{◌≡◌, ℕ, ap, ◌∙◌}
+use Rattle.std.proofs.Common.{ℕ, ap, ◌∙◌}
 use Rattle.rand_pcg.specs.Lcg.{Lcg}
 use Rattle.rand_pcg.specs.Pcg.{multiplier_64, pcg32}
-use Rattle.c11_events.specs.Draws.{generator, after_words}
+use Rattle.c11_events.specs.Draws.{generator}
 use Rattle.c11_draws.proofs.Advancing.{advance_last}
 use Rattle.c11_draws.proofs.word.Goals as goal
 

@@ -1,7 +1,7 @@
-use super::{HEAD, LOAD, STORE, words_of};
+use super::rows::SPIN;
+use super::{answer, words_of};
 use crate::top::c11t;
 use crate::words::Status;
-use c11_accepts::accept;
 use c11_io::{MemSink, MemSource, OpenGate, read_all};
 use std::alloc::{AllocError, Global};
 use std::test::Fail;
@@ -76,22 +76,6 @@ c11t trial [--number N] [--size Z] [--first S] [--count N] [--steps B] [--worker
 c11t help
 ";
 
-/// What the program answers to these words where the source holds this text: its status, and what the sink took.
-fn answer(alloc: Global, line: &str, text: &str) -> Result<(Status, Vec<u8>), Fail> {
-    let words = words_of(alloc, line)?;
-    let mut source = MemSource::new(text.as_bytes().to_vec(alloc)?, 1_000, Vec::new(alloc));
-    let mut sink = MemSink::new(alloc, 200_000, 1_000, Vec::new(alloc))?;
-    let status = c11t(
-        &(),
-        alloc,
-        words.as_slice(),
-        &mut source,
-        &mut sink,
-        &OpenGate,
-    );
-    Ok((status, sink.taken().to_vec(alloc)?))
-}
-
 #[test]
 fn a_run_ends_where_its_program_or_its_bound_says(rt: HostRuntime) -> Result<(), Fail> {
     for (line, text, status, printed) in [
@@ -107,37 +91,24 @@ fn a_run_ends_where_its_program_or_its_bound_says(rt: HostRuntime) -> Result<(),
     Ok(())
 }
 
-#[test]
-fn texts_of_the_first_form_are_accepted(rt: HostRuntime) -> Result<(), Fail> {
-    for text in [
-        FIRST,
-        TWO_CELLS,
-        "#include <stdatomic.h>\nint main(void) {\n}\n",
-    ] {
-        assert!(rt; accept(rt.alloc(), text.as_bytes()).is_ok(), "{text}");
+// A program, and line feeds up to this many bytes.
+fn padded_text(alloc: Global, bytes: usize) -> Result<String, AllocError>
+    requires { 16 ≤ bytes }
+{
+    let mut text = String::from_str(alloc, "int main(void){}")?;
+    for _ in 0..bytes - 16 {
+        text.push_str("\n")?;
     }
-    Ok(())
+    Ok(text)
 }
 
-// A text of the first form of 65,537 bytes, the last one a line feed too many.
-fn long_text(alloc: Global) -> Result<String, AllocError> {
-    let mut long = String::from_str(alloc, HEAD)?;
-    for _ in 0..20 {
-        long.push_str(STORE)?;
-    }
-    for _ in 0..1_288 {
-        long.push_str(LOAD)?;
-    }
-    long.push_str("}\n\n")?;
-    Ok(long)
-}
+ghost use Rattle.std.specs.Prelude.{◌≤◌};
 
 #[test]
-fn texts_that_are_not_run_are_refused_for_the_first_that_applies(
+fn texts_that_are_not_accepted_are_refused_for_the_first_that_applies(
     rt: HostRuntime,
 ) -> Result<(), Fail> {
-    let long = long_text(rt.alloc())?;
-    assert_eq!(rt; long.len(), 65_537);
+    let long = padded_text(rt.alloc(), 65_537)?;
     for (text, printed) in [
         ("", "refused nomain 1 1\n"),
         ("}\n", "refused item 1 1\n"),
@@ -151,12 +122,12 @@ fn texts_that_are_not_run_are_refused_for_the_first_that_applies(
             "refused twice 3 12\n",
         ),
         (
-            "#include <stdatomic.h>\nint main(void) {\n}",
-            "refused form\n",
+            "atomic_int x;\nint main(void) { return atomic_load_explicit(&x, memory_order_release); }\n",
+            "refused order 2 50\n",
         ),
         (
-            "#include <stdatomic.h>\r\nint main(void) {\r\n}\r\n",
-            "refused form\n",
+            "int main(void) { return 5000000000000000000000; }\n",
+            "refused literal 1 25\n",
         ),
         (long.as_str(), "refused long\n"),
     ] {
@@ -167,52 +138,32 @@ fn texts_that_are_not_run_are_refused_for_the_first_that_applies(
     Ok(())
 }
 
-// Refusals that other parts of the program find: the order of an access, a literal that no type holds; and programs of another form than
-// is run yet: a deadlock over a mutex, a sum that wraps and one that overflows, and the longest text that is accepted.
 #[test]
-fn each_kind_of_refusal_is_printed_with_its_place(rt: HostRuntime) -> Result<(), Fail> {
-    let padded = padded_text(rt.alloc())?;
-    assert_eq!(rt; padded.len(), 65_536);
-    for (text, printed) in [
-        (
-            "atomic_int x;\nint main(void) { return atomic_load_explicit(&x, memory_order_release); }\n",
-            "refused order 2 50\n",
-        ),
-        (
-            "int main(void) { return 5000000000000000000000; }\n",
-            "refused literal 1 25\n",
-        ),
-        (DEADLOCK, "refused form\n"),
-        (SUMS, "refused form\n"),
-        (padded.as_str(), "refused form\n"),
-    ] {
-        let (status, taken) = answer(rt.alloc(), "run", text)?;
-        assert_eq!(rt; status, Status::Refused);
-        assert_eq!(rt; taken.as_slice(), printed.as_bytes());
-    }
+fn the_longest_text_is_run(rt: HostRuntime) -> Result<(), Fail> {
+    let text = padded_text(rt.alloc(), 65_536)?;
+    let (status, taken) = answer(rt.alloc(), "run", text.as_str())?;
+    assert_eq!(rt; status, Status::Done);
+    assert_eq!(rt;
+        taken.as_slice(),
+        b"c11t 1 run seed 0 steps 2000\n1 t0 l0 begin main 0\n2 t0 l1 end 0\nverdict done\n".as_slice()
+    );
     Ok(())
 }
 
-// A program, and line feeds up to 65,536 bytes.
-fn padded_text(alloc: Global) -> Result<String, AllocError> {
-    let mut text = String::from_str(alloc, "int main(void){}")?;
-    for _ in 0..65_520 {
-        text.push_str("\n")?;
-    }
-    Ok(text)
+#[test]
+fn help_writes_how_the_program_is_called(rt: HostRuntime) -> Result<(), Fail> {
+    let (status, taken) = answer(rt.alloc(), "help", FIRST)?;
+    assert_eq!(rt; status, Status::Done);
+    assert_eq!(rt; taken.as_slice(), USAGE.as_bytes());
+    Ok(())
 }
-
-const DEADLOCK: &str =
-    "#include <threads.h>\nmtx_t m;\nint f(void *a) {\n  mtx_lock(&m);\n  return 0;\n}\nint main(void) {\n  thrd_t t;\n  mtx_init(&m, mtx_plain);\n  mtx_lock(&m);\n  thrd_create(&t, f, NULL);\n  thrd_join(t, NULL);\n  return 0;\n}\n";
-
-const SUMS: &str =
-    "#include <stdatomic.h>\n#include <stdio.h>\natomic_int a = 2147483647;\nint main(void) {\n  atomic_fetch_add(&a, 1);\n  printf(\"%d\\n\", atomic_load(&a));\n  int i = 2147483647;\n  i = i + 1;\n  return 0;\n}\n";
 
 #[test]
 fn words_without_a_reading_get_the_usage_and_leave_the_source(rt: HostRuntime) -> Result<(), Fail> {
     for line in [
         "",
         "walk",
+        "help --seed 1",
         "run --seed",
         "run --steps 0",
         "run --steps 10001",
@@ -242,9 +193,9 @@ fn words_without_a_reading_get_the_usage_and_leave_the_source(rt: HostRuntime) -
 
 #[test]
 fn a_failing_read_writes_nothing(rt: HostRuntime) -> Result<(), Fail> {
-    let words = words_of(rt.alloc(), "run --seed 7")?;
+    let words = words_of(rt.alloc(), "run --steps 5")?;
     let failing = vec![in rt.alloc(); 2]?;
-    let mut source = MemSource::new(FIRST.as_bytes().to_vec(rt.alloc())?, 16, failing);
+    let mut source = MemSource::new(SPIN.as_bytes().to_vec(rt.alloc())?, 16, failing);
     let mut sink = MemSink::new(rt.alloc(), 1_000, 0, Vec::new(rt.alloc()))?;
     let answer = c11t(
         &rt,
@@ -261,14 +212,10 @@ fn a_failing_read_writes_nothing(rt: HostRuntime) -> Result<(), Fail> {
 
 #[test]
 fn a_failing_write_leaves_the_beginning_of_the_text(rt: HostRuntime) -> Result<(), Fail> {
-    let words = words_of(rt.alloc(), "run --seed 7")?;
-    let mut source = MemSource::new(
-        FIRST.as_bytes().to_vec(rt.alloc())?,
-        0,
-        Vec::new(rt.alloc()),
-    );
-    let failing = vec![in rt.alloc(); 2]?;
-    let mut sink = MemSink::new(rt.alloc(), 1_000, 32, failing)?;
+    let words = words_of(rt.alloc(), "run --steps 5")?;
+    let mut source = MemSource::new(SPIN.as_bytes().to_vec(rt.alloc())?, 0, Vec::new(rt.alloc()));
+    let failing = vec![in rt.alloc(); 3]?;
+    let mut sink = MemSink::new(rt.alloc(), 1_000, 16, failing)?;
     let answer = c11t(
         &rt,
         rt.alloc(),
@@ -280,7 +227,7 @@ fn a_failing_write_leaves_the_beginning_of_the_text(rt: HostRuntime) -> Result<(
     assert_eq!(rt; answer, Status::WriteFault);
     assert_eq!(rt;
         sink.taken(),
-        b"c11t 1 run seed 7 steps 2000\n1 t".as_slice()
+        b"c11t 1 run seed 0 steps 5\n1 t0 l".as_slice()
     );
     Ok(())
 }

@@ -23,9 +23,13 @@ fn reads_commands(rt: HostRuntime) -> Result<(), Fail> {
             "{line}"
         );
     }
+    let words = words_of(rt.alloc(), "help")?;
+    assert_eq!(rt; read_words(words.as_slice()), Some(Command::Help));
     for line in [
         "",
-        "help",
+        "help 1",
+        "help --seed 1",
+        "Help",
         "RUN",
         "--seed 1",
         "run --seed",

@@ -1,0 +1,4 @@
+pub mod Beginnings
+pub mod Growing
+pub mod Listed
+pub mod Racing

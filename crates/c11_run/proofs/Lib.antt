@@ -1,0 +1,9 @@
+pub mod Added
+pub mod Enabling
+pub mod Ending
+pub mod Fitting
+pub mod LegalRuns
+pub mod Lists
+pub mod OneRuns
+pub mod Stepping
+pub mod Telling
