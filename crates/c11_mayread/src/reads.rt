@@ -5,7 +5,7 @@ ghost use Rattle.c11_events.specs.Events.{IsStore, is_seq_cst_order};
 ghost use Rattle.c11_events.specs.Chains.{ChainLawful};
 ghost use Rattle.c11_events.specs.HappensBefore.{HappensBefore};
 ghost use Rattle.c11_events.specs.Values.{value_of};
-ghost use Rattle.c11_events.specs.Offered.{op_cell, op_reading, IsChainOffered, ChainOffered, IsRisingList};
+ghost use Rattle.c11_events.specs.Offered.{op_cell, op_reading, IsChainOffered, ChainOffered, IsRisingList, Offered};
 ghost use Rattle.c11_happens.specs.Covers.{UpTo, CoversExactly, HasNoEvent, IsLastOf, IsCreateOf};
 ghost use Rattle.c11_mayread.specs.Standing.{Words, StandsFor, CanCommit, HaveSameCounts, IsReady, cells_of, threads_of, room_of, committed};
 ghost use Rattle.c11_mayread.specs.Choosing.{MayFollow, IsAskedAt};
@@ -157,12 +157,13 @@ impl Reads {
         Ok(offers)
     }
 
-    /// The stores that the thread's operation may read next, in rising order: those whose reading keeps the events chain-lawful. There is
-    /// one where the cell has a store. None where the operation reads no atomic cell.
+    /// The stores that the thread's operation may read next, in rising order: those whose reading keeps the events consistent, which are
+    /// those whose reading keeps them chain-lawful. There is one where the cell has a store. None where the operation reads no atomic cell.
     pub fn offers(&self, thread: u32, op: &Op) -> Result<Offers, NoMemory>
         requires thread { thread < threads_of self.now }
         requires cell { (cell : ℕ) → op_cell op.now ≡ Some cell → cell < cells_of self.now }
-        ensures offers { IfOk result (λ offers. (events : List Event) (cell : ℕ) → StandsFor self.now events → op_cell op.now ≡ Some cell → ChainOffered events thread (op_reading events op.now) cell offers) }
+        ensures offers { IfOk result (λ offers. (events : List Event) (cell : ℕ) → StandsFor self.now events → op_cell op.now ≡ Some cell → Offered events thread (op_reading events op.now) cell offers) }
+        ensures chain_offers { IfOk result (λ offers. (events : List Event) (cell : ℕ) → StandsFor self.now events → op_cell op.now ≡ Some cell → ChainOffered events thread (op_reading events op.now) cell offers) }
         ensures some { IfOk result (λ offers. (events : List Event) (cell s : ℕ) → StandsFor self.now events → op_cell op.now ≡ Some cell → IsStore events cell s → 0 < length offers) }
         ensures none { IfOk result (λ offers. op_cell op.now ≡ None → offers ≡ []) }
     {

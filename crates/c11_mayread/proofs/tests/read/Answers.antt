@@ -11,7 +11,7 @@ commit-requires-clause-next g c =
     next_op c.args.reads.now c.room.new.self c.args.count played c.room.ensures.stands c.room.ensures.same
     (record { number = c.args.count + 1; thread = c.args.thread; kind = c.reading-kind.result; from = c.args.from }) refl c.requires.room c.requires.thread
     c.args.op.now c.requires.cell c.requires.reads c.in_ok-all.all
-    (λ cell is. c.in_ok-all.ensures.offers played.events cell played.stands is)
+    (λ cell is. c.in_ok-all.ensures.chain_offers played.events cell played.stands is)
     (subst (λ (l : List ℕ). In l c.args.from) c.as_slice-2.ensures (c.is_among.ensures c.if-not-is_among.false))
     (λ cell is store. c.reading-kind.ensures played.events c.args.from cell is (c.value.ensures played.events played.stands (within played.events c.args.from (λ e. stored_cell e.kind ≡ Some cell) store)))
 
@@ -23,7 +23,7 @@ returns g c =
     (next_op c.args.reads.now c.room.new.self c.args.count played c.room.ensures.stands c.room.ensures.same
     (record { number = c.args.count + 1; thread = c.args.thread; kind = c.reading-kind.result; from = c.args.from }) refl c.requires.room c.requires.thread
     c.args.op.now c.requires.cell c.requires.reads c.in_ok-all.all
-    (λ cell is. c.in_ok-all.ensures.offers played.events cell played.stands is)
+    (λ cell is. c.in_ok-all.ensures.chain_offers played.events cell played.stands is)
     (subst (λ (l : List ℕ). In l c.args.from) c.as_slice-2.ensures (c.is_among.ensures c.if-not-is_among.false))
     (λ cell is store. c.reading-kind.ensures played.events c.args.from cell is (c.value.ensures played.events played.stands (within played.events c.args.from (λ e. stored_cell e.kind ≡ Some cell) store))))
     c.commit.new.self c.commit.ensures.stands c.commit.ensures.same

@@ -10,7 +10,7 @@ use Rattle.c11_history.proofs.history.History.offers.Goals as goal
 pub returns-clause-offers : goal.returns-clause-offers
 returns-clause-offers c =
     subst (λ (p : Past). IfOk c.offers.result (λ (offers : List ℕ). AreOffers (events_of p.entries) c.args.thread c.args.op.now offers)) c.self.view_is
-    (are_offers _ (events_of c.self.inside.entries.items) c.self.invariant.reads_stand c.args.thread c.args.op.now c.offers.result c.offers.ensures.offers c.offers.ensures.none)
+    (are_offers _ (events_of c.self.inside.entries.items) c.self.invariant.reads_stand c.args.thread c.args.op.now c.offers.result c.offers.ensures.chain_offers c.offers.ensures.none)
 
 pub returns-clause-some : goal.returns-clause-some
 returns-clause-some c =
@@ -19,5 +19,5 @@ returns-clause-some c =
 
 pub returns-clause-few : goal.returns-clause-few
 returns-clause-few c =
-    few_offers _ (events_of c.self.inside.entries.items) c.self.invariant.reads_stand c.args.thread c.args.op.now c.offers.result c.offers.ensures.offers c.offers.ensures.none
+    few_offers _ (events_of c.self.inside.entries.items) c.self.invariant.reads_stand c.args.thread c.args.op.now c.offers.result c.offers.ensures.chain_offers c.offers.ensures.none
     (omega (arith, length-events_of c.self.inside.entries.items, c.self.invariant.few))

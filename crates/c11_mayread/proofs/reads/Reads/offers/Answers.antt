@@ -1,6 +1,7 @@
 use Rattle.std.proofs.Common.{◌≡◌, ℕ, List, Some, None, ap, sym, subst, ◌∙◌}
 use Rattle.c11_events.specs.declared.event.Event.{Event}
 use Rattle.c11_events.specs.Offered.{op_cell, op_reading, ChainOffered}
+use Rattle.c11_events.proofs.Agreement.{offers_agree}
 use Rattle.c11_mayread.specs.Standing.{StandsFor}
 use Rattle.c11_mayread.specs.declared.asked.Asked.{Asked}
 use Rattle.c11_mayread.proofs.Offering.{AskedBy, asked_by, asked_none}
@@ -23,8 +24,11 @@ module _ (c : goal.After-new) where
       (subst (λ (k : ℕ). ChainOffered events c.args.thread (op_reading events c.args.op.now) k c.in_ok-offers_of-in-Some.field-0.items) (same_cell cell is)
       (c.in_ok-offers_of-in-Some.ensures events (op_reading events c.args.op.now) stands (λ x. by.1 events x)))
 
+pub returns-in_ok-offers_of-in-Some-clause-chain_offers : goal.returns-in_ok-offers_of-in-Some-clause-chain_offers
+returns-in_ok-offers_of-in-Some-clause-chain_offers c = offered c
+
 pub returns-in_ok-offers_of-in-Some-clause-offers : goal.returns-in_ok-offers_of-in-Some-clause-offers
-returns-in_ok-offers_of-in-Some-clause-offers c = offered c
+returns-in_ok-offers_of-in-Some-clause-offers c = λ events cell stands is. (offers_agree events c.args.thread (op_reading events c.args.op.now) cell c.new.result).1 (offered c events cell stands is)
 
 pub returns-in_ok-offers_of-in-Some-clause-some : goal.returns-in_ok-offers_of-in-Some-clause-some
 returns-in_ok-offers_of-in-Some-clause-some c = λ events cell s stands is store.
@@ -33,6 +37,9 @@ returns-in_ok-offers_of-in-Some-clause-some c = λ events cell s stands is store
 
 pub returns-in_ok-offers_of-in-Some-clause-none : goal.returns-in_ok-offers_of-in-Some-clause-none
 returns-in_ok-offers_of-in-Some-clause-none c = λ none. absurd (let clash : None ≡ Some (asked c).cell = sym none ∙ (by c).0 in cc)
+
+pub returns-in-None-clause-chain_offers : goal.returns-in-None-clause-chain_offers
+returns-in-None-clause-chain_offers c = λ events cell stands is. absurd (let none = asked_none c.args.op.now (sym c.asked_of.ensures ∙ c.in-None.is) in let clash : None ≡ Some cell = sym none ∙ is in cc)
 
 pub returns-in-None-clause-offers : goal.returns-in-None-clause-offers
 returns-in-None-clause-offers c = λ events cell stands is. absurd (let none = asked_none c.args.op.now (sym c.asked_of.ensures ∙ c.in-None.is) in let clash : None ≡ Some cell = sym none ∙ is in cc)
