@@ -112,6 +112,90 @@ const UNLOCKED: &str = "c11t 1 run seed 0 steps 2000
 verdict fault unlock
 ";
 
+/// A flag that is passed on without a release: what is read behind it races.
+const RELAXED: &str =
+    "/* The same with the release forgotten: ./c11t run --seed 48 < examples/message_passing_relaxed.c ends with a race on `data`.
+   The load may read the flag, but nothing orders the write of the message before its read. */
+#include <stdatomic.h>
+#include <threads.h>
+#include <assert.h>
+
+int data;
+atomic_int ready;
+
+int writer(void *arg) {
+  data = 42;
+  atomic_store_explicit(&ready, 1, memory_order_relaxed);
+  return 0;
+}
+
+int main(void) {
+  thrd_t t;
+  thrd_create(&t, writer, NULL);
+  if (atomic_load_explicit(&ready, memory_order_acquire))
+    assert(data == 42);
+  thrd_join(t, NULL);
+  return 0;
+}
+";
+
+// Of two stores that are offered the words of the seed choose the second. A program apart from this one, which knows the rules and the
+// generator, has the same steps.
+const RELAXED_RACE: &str = "c11t 1 run seed 48 steps 2000
+1 t0 l0 init ready 0
+2 t0 l0 begin main 0
+3 t0 l18 create writer 0 = t1
+4 t1 l0 begin writer 0
+5 t1 l11 write data 42
+6 t1 l12 store ready relaxed 1
+7 t0 l19 load ready acquire = 1 from 6 of 1 6
+8 t0 l20 read data = 42
+verdict race 5 8 data
+";
+
+const TRIES: &str = "#include <threads.h>
+mtx_t m;
+int main(void) {
+  mtx_init(&m, mtx_plain);
+  mtx_trylock(&m);
+  mtx_trylock(&m);
+  mtx_unlock(&m);
+  return mtx_trylock(&m);
+}
+";
+
+const TRIED: &str = "c11t 1 run seed 0 steps 2000
+1 t0 l0 begin main 0
+2 t0 l4 minit m
+3 t0 l5 trylock m = 0
+4 t0 l6 trylock m = 1
+5 t0 l7 unlock m
+6 t0 l8 trylock m = 0
+7 t0 l8 end 0
+verdict done
+";
+
+const EXCHANGES: &str = "#include <stdatomic.h>
+atomic_int x = 3;
+int main(void) {
+  int e = 2;
+  atomic_compare_exchange_strong(&x, &e, 5);
+  atomic_compare_exchange_weak_explicit(&x, &e, 7, memory_order_acq_rel, memory_order_relaxed);
+  atomic_thread_fence(memory_order_release);
+  return e;
+}
+";
+
+const EXCHANGED: &str = "c11t 1 run seed 0 steps 2000
+1 t0 l0 init x 3
+2 t0 l0 begin main 0
+3 t0 l5 cas x seq_cst seq_cst 2 5 = 3 no from 1 of 1
+4 t0 l6 wcas x acq_rel relaxed 3 7 = 3 yes from 1 of 1
+5 t0 l7 fence release
+6 t0 l8 end 3
+verdict done
+";
+
 #[test]
 fn executions_are_printed_to_the_byte(rt: HostRuntime) -> Result<(), Fail> {
     for (line, text, status, printed) in [
@@ -120,6 +204,9 @@ fn executions_are_printed_to_the_byte(rt: HostRuntime) -> Result<(), Fail> {
         ("run", TURNS, Status::Found, TURNED),
         ("run", SUMS, Status::Found, SUMMED),
         ("run", UNLOCK, Status::Found, UNLOCKED),
+        ("run --seed 48", RELAXED, Status::Found, RELAXED_RACE),
+        ("run", TRIES, Status::Done, TRIED),
+        ("run", EXCHANGES, Status::Done, EXCHANGED),
     ] {
         let (found, taken) = answer(rt.alloc(), line, text)?;
         assert_eq!(rt; taken.as_slice(), printed.as_bytes(), "{line}");
@@ -187,6 +274,17 @@ int main(void) {
   return 0;
 }
 ";
+
+// How many creates are printed.
+fn created(text: &[u8]) -> usize {
+    let mut count = 0;
+    for place in 0..text.len() {
+        if text[place..].starts_with(b" create ") {
+            count += 1;
+        }
+    }
+    count
+}
 
 #[test]
 fn the_seventeenth_thread_is_a_fault_for_every_seed(rt: HostRuntime) -> Result<(), Fail> {
