@@ -79,8 +79,10 @@ impl Graph {
         ensures stands { (made : Made) → StandsFor self.old made → StandsFor self.new made }
         ensures same { HasSameCounts self.old self.new }
     {
-        make_room(&mut self.lists)?;
-        self.ready = true;
+        if !self.ready {
+            make_room(&mut self.lists)?;
+            self.ready = true;
+        }
         Ok(())
     }
 

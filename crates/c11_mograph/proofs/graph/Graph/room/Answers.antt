@@ -14,13 +14,13 @@ pub returns-in_err-make_room-clause-stands : goal.returns-in_err-make_room-claus
 returns-in_err-make_room-clause-stands c = λ made stands.
     still_stands _ _ c.make_room.ensures.count c.make_room.ensures.grown _ refl c.self.inside.ready made (subst (λ (w : Words). StandsFor w made) (sym c.self.view_is) stands)
 
-pub invariant_of-self-2 : goal.invariant_of-self-2
-invariant_of-self-2 c = record {
+pub invariant_of-self-then-not-self : goal.invariant_of-self-then-not-self
+invariant_of-self-then-not-self c = record {
   safe = made_safe _ _ c.make_room.ensures.count c.make_room.ensures.grown _ refl true _ c.in_ok-make_room.ensures.room c.self.invariant.safe;
   numbers_fit = c.self.invariant.numbers_fit;
   kept_fit = c.self.invariant.kept_fit;
 }
 
-pub returns-clause-stands : goal.returns-clause-stands
-returns-clause-stands c = λ made stands.
+pub returns-in_ok-make_room-clause-stands : goal.returns-in_ok-make_room-clause-stands
+returns-in_ok-make_room-clause-stands c = λ made stands.
     still_stands _ _ c.make_room.ensures.count c.make_room.ensures.grown _ refl true made (subst (λ (w : Words). StandsFor w made) (sym c.self.view_is) stands)
