@@ -1,0 +1,4 @@
+mod cells;
+mod player;
+mod runs;
+mod standing;
