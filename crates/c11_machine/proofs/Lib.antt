@@ -1,6 +1,7 @@
 pub mod Advances
 pub mod Effects
 pub mod Falls
+pub mod InPlace
 pub mod Indexes
 pub mod Ranges
 pub mod Popped

@@ -21,6 +21,7 @@ use Rattle.c11_machine.specs.declared.answer.Answer.{Answer}
 use Rattle.c11_machine.specs.declared.effect.Budget.{Budget}
 use Rattle.c11_machine.specs.declared.effect.Budget.TheVariants.{Kept, Turn, Reply}
 use Rattle.c11_machine.specs.declared.effect.Change.{Change}
+use Rattle.c11_machine.specs.declared.effect.Written.{Written}
 use Rattle.c11_machine.specs.declared.effect.Effect.{Effect}
 use Rattle.c11_machine.specs.declared.effect.Effect.TheVariants.{Moves, Asks, Stuck}
 
@@ -55,8 +56,11 @@ ActsAs instr effect c = (code : Whole) → act code instr c ≡ meant effect c
 
 -- ---- effects of some forms
 
+abbrev pub replaces : ℕ → Slot → Option Written → Effect
+replaces takes slot writes = Moves (record { takes = takes; puts = Some slot; writes = writes; to = None; budget = Kept })
+
 abbrev pub puts : ℕ → Slot → Effect
-puts takes slot = Moves (record { takes = takes; puts = Some slot; writes = None; to = None; budget = Kept })
+puts takes slot = replaces takes slot None
 
 abbrev pub gives : ℕ → TypedNumber → Effect
 gives takes value = puts takes (Value value)

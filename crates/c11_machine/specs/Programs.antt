@@ -1,5 +1,4 @@
 -- A checked program, as its runs take it.
-use Rattle.c11_events.specs.Replies.{Setting}
 use Rattle.c11_check.specs.declared.checked.Checked.{Checked}
 use Rattle.c11_meaning.specs.Asks.{asks_of}
 use Rattle.c11_machine.specs.Runs.{Program}

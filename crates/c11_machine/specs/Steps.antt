@@ -5,7 +5,8 @@ use Rattle.c11_num.specs.declared.memory.NoMemory.{NoMemory}
 use Rattle.c11_num.specs.declared.value.CType.{CType}
 use Rattle.c11_flat.specs.declared.instr.Instr.{Instr}
 use Rattle.c11_flat.specs.declared.instr.Instr.TheVariants.{Print, Call, Return, Clear}
-use Rattle.c11_flat.specs.Flat.{Config, Next, To, Says, Halts, numbers_in}
+use Rattle.c11_flat.specs.Code.{Whole}
+use Rattle.c11_flat.specs.Flat.{Config, Next, To, Says, Halts, act, numbers_in}
 use Rattle.c11_machine.specs.declared.step.Step.{Step}
 use Rattle.c11_machine.specs.declared.step.Step.TheVariants.{On, Asks, Stuck}
 
@@ -15,6 +16,14 @@ Took next old new (Ok On) = next ≡ To new
 Took next old new (Ok (Asks ask)) = (next ≡ Says ask) × (new ≡ old)
 Took next old new (Ok Stuck) = next ≡ Halts
 Took next old new (Err short) = new ≡ old
+
+-- whether it was done; where not, nothing changes
+abbrev pub Did : Next → Config → Config → Bool → Type 0
+Did next old new true = next ≡ To new
+Did next old new false = new ≡ old
+
+abbrev pub DidAs : Instr → Config → Config → Bool → Type 0
+DidAs instr old new did = (code : Whole) → Did (act code instr old) old new did
 
 -- 0 at so many places from this one on
 abbrev pub zeros : ℕ → ℕ → List ℤ → List ℤ

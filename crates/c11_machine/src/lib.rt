@@ -5,7 +5,8 @@
 //! program's syntax trees ask.
 //!
 //! Inside, each instruction is first looked at, which gives an `Effect` and changes nothing; then the effect is applied. Calls and
-//! returns, which leave their function, are done by themselves. Of the stack and the callers the last item is the top one.
+//! returns, which leave their function, are done by themselves. The commonest instructions are first tried in place (`quick`), which
+//! costs less. Of the stack and the callers the last item is the top one.
 #![tactic(auto)]
 
 mod answer;
@@ -23,6 +24,7 @@ mod moves;
 mod numbers;
 mod operations;
 mod print;
+mod quick;
 mod run;
 mod slots;
 mod step;

@@ -27,7 +27,7 @@ pub(crate) fn put(stack: &mut Vec<Slot>, takes: usize, slot: Slot) -> Result<(),
 }
 
 // Takes so many slots off.
-fn take(stack: &mut Vec<Slot>, takes: usize)
+pub(crate) fn take(stack: &mut Vec<Slot>, takes: usize)
     ensures { reverse stack.new.items ≡ drop takes (reverse stack.old.items) }
 {
     let kept = stack.len().saturating_sub(takes);
@@ -49,7 +49,7 @@ fn change_stack(stack: &mut Vec<Slot>, takes: usize, puts: Option<Slot>) -> Resu
 }
 
 // Writes to a place, where there is one.
-fn write_place(locals: &mut Vec<CValue>, writes: Option<Written>)
+pub(crate) fn write_place(locals: &mut Vec<CValue>, writes: Option<Written>)
     ensures { numbers_of locals.new.items ≡ wrote writes (numbers_of locals.old.items) }
 {
     if let Some(written) = writes {

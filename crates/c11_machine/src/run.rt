@@ -160,8 +160,8 @@ impl Machine {
         }
     }
 
-    // Does one instruction.
-    pub(crate) fn step(&mut self, code: &Code) -> Result<Step, NoMemory>
+    // Does one instruction by its effect.
+    fn step_by_effect(&mut self, code: &Code) -> Result<Step, NoMemory>
         ensures { Took (next code.now (To (config_of self.old))) (config_of self.old) (config_of self.new) result }
     {
         let Some(instr) = instr_at(code, self.place) else {
@@ -170,6 +170,17 @@ impl Machine {
         match self.effect(instr) {
             Some(effect) => self.perform(effect),
             None => self.does(code, instr),
+        }
+    }
+
+    // Does one instruction.
+    pub(crate) fn step(&mut self, code: &Code) -> Result<Step, NoMemory>
+        ensures { Took (next code.now (To (config_of self.old))) (config_of self.old) (config_of self.new) result }
+    {
+        if self.quick(code) {
+            Ok(Step::On)
+        } else {
+            self.step_by_effect(code)
         }
     }
 

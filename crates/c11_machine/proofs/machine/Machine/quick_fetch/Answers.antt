@@ -1,0 +1,8 @@
+use Rattle.std.proofs.Common.{◌∙◌}
+use Rattle.c11_machine.specs.Views.{config_of}
+use Rattle.c11_machine.proofs.InPlace.{did_same, reads_local}
+use Rattle.c11_machine.proofs.Stacks.{place_stays}
+use Rattle.c11_machine.proofs.machine.Machine.quick_fetch.Goals as goal
+
+pub returns : goal.returns
+returns c line code = did_same _ _ _ _ _ (place_stays c.args.place _ _ ∙ (c.in-Some.ensures _ ∙ reads_local line 0 c.in-Some.found.place _ c.args.ctype _ (config_of c.args.self.now) c.in-Local.is c.local-value.ensures)) c.quick_puts.ensures
