@@ -1,7 +1,9 @@
 mod arithmetic;
 mod control;
 mod library;
+mod lowering;
 mod objects;
+mod pieces;
 mod tell;
 mod threads;
 mod worked;

@@ -14,8 +14,6 @@ mod emitting;
 mod functions;
 mod measuring;
 mod passing;
-#[cfg(test)]
-mod tests;
 mod whole;
 
 pub use whole::lower;

@@ -13,7 +13,5 @@ mod linking;
 mod lists;
 mod past;
 mod reads;
-#[cfg(test)]
-mod tests;
 
 pub use reads::Reads;

@@ -7,7 +7,5 @@
 mod graph;
 mod kept;
 mod table;
-#[cfg(test)]
-mod tests;
 
 pub use graph::Graph;

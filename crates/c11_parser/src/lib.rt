@@ -5,8 +5,6 @@ mod item;
 pub mod laws;
 mod mark;
 mod sort;
-#[cfg(test)]
-mod tests;
 mod whole;
 
 pub use whole::{SyntaxFault, parse};

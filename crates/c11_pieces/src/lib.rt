@@ -13,8 +13,6 @@ mod lengths;
 mod library;
 mod objects;
 mod sizes;
-#[cfg(test)]
-mod tests;
 mod types;
 
 pub use emission::emit_expr;

@@ -3,8 +3,6 @@
 
 mod mutexes;
 mod replies;
-#[cfg(test)]
-mod tests;
 mod threads;
 mod values;
 

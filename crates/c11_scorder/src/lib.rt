@@ -9,7 +9,5 @@ mod kinds;
 pub mod laws;
 mod order;
 mod tables;
-#[cfg(test)]
-mod tests;
 
 pub use order::ScOrder;

@@ -8,8 +8,6 @@ mod cell;
 mod epoch;
 mod laws;
 mod shadow;
-#[cfg(test)]
-mod tests;
 
 pub use epoch::{Epoch, epoch_number, epoch_thread, pack};
 pub use laws::others_change_nothing;

@@ -1,0 +1,2 @@
+mod accepting;
+mod parsing;

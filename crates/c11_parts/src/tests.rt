@@ -1,0 +1,5 @@
+mod graph;
+mod reads;
+mod replies;
+mod seq_cst;
+mod shadow;
