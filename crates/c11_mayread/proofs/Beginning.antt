@@ -1,17 +1,12 @@
 -- No event, and nothing made.
-use Rattle.std.proofs.Common.{◌≡◌, ℕ, zero, suc, [], Some}
-use Rattle.c11_events.specs.declared.event.Event.{Event}
+use Rattle.std.proofs.Common.{◌≡◌, ℕ, [], Some}
 use Rattle.c11_events.specs.Events.{At, IsStore, stored_cell, loaded_cell}
 use Rattle.c11_events.specs.Chains.{ChainLawful}
 use Rattle.c11_events.proofs.Basics.{chain_head}
 use Rattle.c11_events.proofs.Level.{links_from}
 use Rattle.c11_mograph.specs.Made.{nothing_made}
 use Rattle.c11_mayread.specs.Agreement.{IsStoreAs, Agrees}
-use Rattle.c11_mayread.proofs.Noting.{no_reads}
-
-no_event : (x : ℕ) (P : Event → Type 0) → At [] x P → ⊥
-no_event zero P at = let clash = at.is in cc
-no_event (suc x) P at = let clash = at.is in cc
+use Rattle.c11_mayread.proofs.Noting.{no_event, no_reads}
 
 no_store : (cell x : ℕ) → IsStore [] cell x → ⊥
 no_store cell x s = no_event x (λ e. stored_cell e.kind ≡ Some cell) s

@@ -20,15 +20,15 @@ use Rattle.c11_scorder.specs.Tables.{AreNoted, AreSame, AreAlike, HasRoom, noted
 use Rattle.c11_mayread.specs.declared.kept.Kept.{Kept}
 use Rattle.c11_mayread.specs.Facts.{Facts, IsPastOf, AreRoomy, kept_of, by_load}
 
+pub no_event : (x : ℕ) (P : Event → Type 0) → At [] x P → ⊥
+no_event zero P at = let clash = at.is in cc
+no_event (suc x) P at = let clash = at.is in cc
+
 pub nothing_noted : (by : Event → Option ℕ) (notes : Notes) → notes.notes ≡ [] → AreNoted by [] notes
 nothing_noted by notes none cell thread x = (
   λ is. absurd (let at : slice_get [] is.0 ≡ Some (note cell thread x) = subst (λ (l : List Note). slice_get l is.0 ≡ Some (note cell thread x)) none is.1 in cc),
   λ at. absurd (no_event x (λ e. (by e ≡ Some cell) × (e.thread ≡ thread)) at),
 )
-  where
-    no_event : (x : ℕ) (P : Event → Type 0) → At [] x P → ⊥
-    no_event zero P at = let clash = at.is in cc
-    no_event (suc x) P at = let clash = at.is in cc
 
 module _ (by : Event → Option ℕ) (events : List Event) (e : Event) where
   abbrev Is : ℕ → ℕ → Event → Type 0
@@ -165,10 +165,6 @@ module _ (old new : Facts) (e : Event) (v : TypedNumber) (n : IsNotedIn old new 
         loads = subst (λ (p : ℕ × ℕ). HasRoom p.0 p.1 new.loads) (λ i. (sym room i, sym count i)) (room_next old.happens.room (length old.kept) old.loads new.loads (loaded_cell e.kind) e.thread e.number number n.loads r.loads);
         within = omega (arith, count, room, number);
       }
-
-no_event : (x : ℕ) (P : Event → Type 0) → At [] x P → ⊥
-no_event zero P at = let clash = at.is in cc
-no_event (suc x) P at = let clash = at.is in cc
 
 pub no_reads : ReadsEarlier []
 no_reads cell l x load = absurd (no_event l (λ e. (loaded_cell e.kind ≡ Some cell) × (e.from ≡ x)) load)
