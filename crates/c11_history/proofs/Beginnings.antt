@@ -28,14 +28,6 @@ reading_same s t = record { cells = t.cells ∙ s.cells; threads = t.threads ∙
 pub replying_same : {a b d : replying.Words} → replying.HaveSameCounts a b → replying.HaveSameCounts b d → replying.HaveSameCounts a d
 replying_same s t = record { threads = t.threads ∙ s.threads; mutexes = t.mutexes ∙ s.mutexes; values = t.values ∙ s.values }
 
-take_more : {X : Type 0} (xs : List X) (i : ℕ) (x : X) → slice_get xs i ≡ Some x → take (suc i) xs ≡ take i xs ++ x ∷ []
-take_more [] i x at = cc
-take_more (y ∷ ys) zero x at = let same : y ≡ x = cc in λ i. same i ∷ []
-take_more (y ∷ ys) (suc i) x at = λ j. y ∷ take_more ys i x at j
-
-pub take_next : {X : Type 0} (xs : List X) (i : ℕ) (x : X) → slice_get xs i ≡ Some x → take (i + 1) xs ≡ take i xs ++ x ∷ []
-take_next xs i x at = (λ j. take (add-one i j) xs) ∙ take_more xs i x at
-
 -- one cell more
 init_taken : (n : ℕ) (cells : List CellInfo) (i : ℕ) (info : CellInfo) → slice_get cells i ≡ Some info → init_from n (take (suc i) cells) ≡ init_from n (take i cells) ++ init_entry (n + i) info.initial ∷ []
 init_taken n [] i info at = cc

@@ -9,7 +9,7 @@ ghost use Rattle.c11_events.specs.declared.op.Ask.{Ask};
 ghost use Rattle.c11_history.specs.Past.{AreOffers, IsRaceOfLast, IsWithin, opened};
 
 use crate::adding::{commit, make_room, note_access, put};
-use crate::opening::{add_inits, copy_atomics, copy_plains};
+use crate::opening::{add_inits, copy_cells};
 use c11_check::Checked;
 use c11_events::{CellInfo, Entry, Holder, Offers, Op, Reply};
 use c11_mayread::Reads;
@@ -64,8 +64,8 @@ impl History {
         requires { room ≤ 10000 }
         ensures { IfOk result (λ history. history ≡ opened checked.now room) }
     {
-        let atomics = copy_atomics(alloc, checked)?;
-        let plains = copy_plains(alloc, checked)?;
+        let atomics = copy_cells(alloc, checked.atomics())?;
+        let plains = copy_cells(alloc, checked.plains())?;
         let count = checked.atomic_count();
         let main = checked.main();
         let mut entries = Vec::with_capacity(alloc, (count + room) as usize)?;

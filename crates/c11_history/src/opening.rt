@@ -8,35 +8,21 @@ ghost use Rattle.c11_replies.specs.Words as replying;
 ghost use Rattle.c11_history.specs.Sound.{init_entry, HasRoomForInits};
 
 use crate::adding::{commit, put};
-use c11_check::Checked;
 use c11_events::{CellInfo, Entry, Offers, Op, Reply};
 use c11_mayread::Reads;
 use c11_num::{CValue, NoMemory};
 use c11_replies::Replies;
 use std::alloc::Global;
 
-// The atomic cells of the program again.
-pub(crate) fn copy_atomics(alloc: Global, checked: &Checked) -> Result<Vec<CellInfo>, NoMemory>
-    ensures { IfOk result (λ cells. cells.items ≡ checked.now.tables.atomics) }
+// The same cells again.
+pub(crate) fn copy_cells(alloc: Global, cells: &[CellInfo]) -> Result<Vec<CellInfo>, NoMemory>
+    ensures { IfOk result (λ copies. copies.items ≡ cells.now) }
 {
-    let count = checked.atomic_count();
-    let mut cells = Vec::with_capacity(alloc, count as usize)?;
-    for cell in 0..count {
-        cells.push(checked.atomic(cell).copy()?)?;
+    let mut copies = Vec::with_capacity(alloc, cells.len())?;
+    for cell in cells {
+        copies.push(cell.copy()?)?;
     }
-    Ok(cells)
-}
-
-// The plain cells of the program again.
-pub(crate) fn copy_plains(alloc: Global, checked: &Checked) -> Result<Vec<CellInfo>, NoMemory>
-    ensures { IfOk result (λ cells. cells.items ≡ checked.now.tables.plains) }
-{
-    let count = checked.plain_count();
-    let mut cells = Vec::with_capacity(alloc, count as usize)?;
-    for cell in 0..count {
-        cells.push(checked.plain(cell).copy()?)?;
-    }
-    Ok(cells)
+    Ok(copies)
 }
 
 // The Init of an atomic cell.

@@ -12,8 +12,8 @@ add_inits-requires-clause-replies c =
 pub invariant_of-result : goal.invariant_of-result
 invariant_of-result c =
     let setting : Setting = record { atomic = c.in_ok-atomics.atomics.items; plain = c.in_ok-plains.plains.items; main = c.main-main.result } in
-    let count : c.atomic_count-count.result ≡ length setting.atomic = c.atomic_count-count.ensures.count ∙ ap (λ (l : List CellInfo). length l) (sym c.in_ok-atomics.ensures) in
-    let plain_count : c.plain_count.result ≡ length setting.plain = c.plain_count.ensures.count ∙ ap (λ (l : List CellInfo). length l) (sym c.in_ok-plains.ensures) in
+    let count : c.atomic_count-count.result ≡ length setting.atomic = c.atomic_count-count.ensures.count ∙ ap (λ (l : List CellInfo). length l) (sym (c.in_ok-atomics.ensures ∙ c.atomics.ensures)) in
+    let plain_count : c.plain_count.result ≡ length setting.plain = c.plain_count.ensures.count ∙ ap (λ (l : List CellInfo). length l) (sym (c.in_ok-plains.ensures ∙ c.plains.ensures)) in
     sound_opened setting c.args.room _ c.in_ok-reads.reads _ _ c.in_ok-replies.replies _ (record {
       reads_cells = c.in_ok-reads.ensures.cells ∙ count;
       reads_threads = c.in_ok-reads.ensures.threads;
