@@ -1,5 +1,5 @@
 -- The ways back from a note to earlier ones of its pair.
-use Rattle.std.specs.Prelude.{ℕ, ◌≡◌, ◌<◌, ◌≤◌, ◌+◌, ◌&&◌, Bool, List, Option, Some, MatchOption, length, slice_get, nat_eq, ◌⊎◌}
+use Rattle.std.specs.Prelude.{ℕ, ◌≡◌, ◌<◌, ◌≤◌, ◌+◌, ◌*◌, ◌&&◌, Bool, List, Option, Some, MatchOption, length, slice_get, nat_eq, ◌⊎◌}
 use Rattle.std.specs.HashMap.{HashMap, get}
 use Rattle.c11_latest.specs.declared.latest.Note.{Note}
 use Rattle.c11_latest.specs.declared.links.Link.{Link}
@@ -24,6 +24,19 @@ IsInside end place = (p : ℕ) → place ≡ Some p → p < end
 abbrev pub IsBehind : List Link → ℕ → ℕ → Type 0
 IsBehind links place far = (far ≡ place) ⊎ ((l m : Link) × (middle : ℕ) × (slice_get links place ≡ Some l) × (l.jump ≡ Some middle)
     × (slice_get links middle ≡ Some m) × (m.jump ≡ Some far))
+
+-- two jumps lead from this place to the other, each over as many notes of the pair
+pub record HasLikeJumps (links : List Link) (place far : ℕ) : Type 0 where
+  pub first : Link
+  pub second : Link
+  pub third : Link
+  pub middle : ℕ
+  pub is_first : slice_get links place ≡ Some first
+  pub jumps : first.jump ≡ Some middle
+  pub is_second : slice_get links middle ≡ Some second
+  pub jumps_on : second.jump ≡ Some far
+  pub is_third : slice_get links far ≡ Some third
+  pub like : first.depth + third.depth ≡ 2 * second.depth
 
 pub record IsLinkAfter (links : List Link) (place : Option ℕ) (l : Link) : Type 0 where
   pub before : l.before ≡ place

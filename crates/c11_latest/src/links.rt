@@ -1,6 +1,7 @@
 //! The ways back from a note.
-ghost use Rattle.std.specs.Prelude.{◌≡◌, ◌<◌, ◌≤◌, ◌^◌, ℕ, length};
-ghost use Rattle.c11_latest.specs.Linked.{JumpsBack, IsBehind, IsInside, IsLinkAfter, IsStep};
+ghost use Rattle.std.specs.Prelude.{◌≡◌, ◌<◌, ◌≤◌, ◌+◌, ◌*◌, ◌^◌, ◌↔◌, ℕ, Some, None, IsTrue, length, slice_get};
+ghost use Rattle.c11_latest.specs.declared.links.Link.{Link};
+ghost use Rattle.c11_latest.specs.Linked.{JumpsBack, IsBehind, IsInside, IsLinkAfter, IsStep, HasLikeJumps};
 
 use crate::latest::Note;
 
@@ -17,7 +18,8 @@ pub(crate) struct Link {
 fn jump_after(links: &[Link], before: u32) -> u32
     requires inside { before < length links.now }
     requires back { JumpsBack links.now }
-    ensures { IsBehind links.now before result }
+    ensures behind { IsBehind links.now before result }
+    ensures far { (far : ℕ) → HasLikeJumps links.now before far → result ≡ far }
 {
     let first = links[before as usize];
     match first.jump {
@@ -40,7 +42,9 @@ fn jump_after(links: &[Link], before: u32) -> u32
 }
 
 // Whether the second stands in the middle of the first and the third.
-fn is_midway(first: u32, second: u32, third: u32) -> bool {
+fn is_midway(first: u32, second: u32, third: u32) -> bool
+    ensures { IsTrue result ↔ (first + third ≡ 2 * second) }
+{
     u64::from(first) + u64::from(third) == 2 * u64::from(second)
 }
 
@@ -48,7 +52,10 @@ fn is_midway(first: u32, second: u32, third: u32) -> bool {
 pub(crate) fn link_after(links: &[Link], before: Option<u32>) -> Link
     requires inside { IsInside (length links.now) before }
     requires back { JumpsBack links.now }
-    ensures { IsLinkAfter links.now before result }
+    ensures link { IsLinkAfter links.now before result }
+    ensures first { before ≡ None → result.depth ≡ 0 }
+    ensures deeper { (place : ℕ) (last : Link) → before ≡ Some place → slice_get links.now place ≡ Some last → last.depth + 1 < 2 ^ 32 → result.depth ≡ last.depth + 1 }
+    ensures over { (place far : ℕ) → before ≡ Some place → HasLikeJumps links.now place far → result.jump ≡ Some far }
 {
     match before {
         Some(place) => Link {

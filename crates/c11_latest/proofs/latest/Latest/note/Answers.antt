@@ -15,7 +15,7 @@ invariant_of-self c =
     let place_is : c.len-place.result ≡ length notes = omega (arith, c.len-place.ensures, c.self.inside.notes.ok.0) in
     let longer : length (notes ++ note cell thread c.args.number ∷ []) ≡ length notes + 1 = length-append notes (note cell thread c.args.number ∷ []) in
     let after : IsLinkAfter c.self.inside.links.items (last_in c.self.inside.last cell thread) c.link_after-link.result =
-    subst (λ (p : List Link × Option ℕ). IsLinkAfter p.0 p.1 c.link_after-link.result) (λ i. (c.deref.ensures.value i, c.last_place-before.ensures i)) c.link_after-link.ensures in
+    subst (λ (p : List Link × Option ℕ). IsLinkAfter p.0 p.1 c.link_after-link.result) (λ i. (c.deref.ensures.value i, c.last_place-before.ensures i)) c.link_after-link.ensures.link in
     let rise : (y : ℕ) → IsNoted notes cell thread y → y < c.args.number =
     subst (λ (n : Notes). (y : ℕ) → IsNoted n.notes cell thread y → y < c.args.number) (sym c.self.view_is) c.requires.rises in
     let linked = noted notes c.self.inside.links.items (last_in c.self.inside.last) c.self.invariant.linked cell thread c.args.number rise c.link_after-link.result after (last_in c.put_last.new.last)
