@@ -8,19 +8,10 @@ use c11_events::EventKind;
 pub(crate) fn seq_cst_cell(kind: &EventKind) -> Option<u32>
     ensures { result ≡ seq_cst_cell kind.now }
 {
-    match kind {
-        EventKind::AtomicStore {
-            cell,
-            order,
-            value: _,
-        } if order.is_seq_cst() => Some(*cell),
-        EventKind::Rmw {
-            cell,
-            order,
-            kind: _,
-            operand: _,
-        } if order.is_seq_cst() => Some(*cell),
-        _ => None,
+    if kind.is_seq_cst() {
+        kind.stored_cell()
+    } else {
+        None
     }
 }
 
@@ -28,8 +19,5 @@ pub(crate) fn seq_cst_cell(kind: &EventKind) -> Option<u32>
 pub(crate) fn is_seq_cst_fence(kind: &EventKind) -> bool
     ensures { result ≡ is_seq_cst_fence kind.now }
 {
-    match kind {
-        EventKind::Fence { order } => order.is_seq_cst(),
-        _ => false,
-    }
+    kind.is_fence() && kind.is_seq_cst()
 }
