@@ -69,7 +69,8 @@ pub record HasSameCounts (old new : Words) : Type 0 where
 abbrev pub KeepsAllButBits : Words → Words → Type 0
 KeepsAllButBits old new = new ≡ record old { bits = new.bits }
 
--- there is one store more, and room for no further one yet; the counts with which the graph was opened are as they were
+-- there is one store more, and whether there is room for a further one is not said; the counts with which the graph was opened are as
+-- they were
 pub record AddsOne (old new : Words) : Type 0 where
   pub stores : length new.numbers ≡ length old.numbers + 1
   pub cells : length new.lists ≡ length old.lists

@@ -322,8 +322,8 @@ impl Graph {
         ensures { Pushes self.old self.new number kept }
     {
         push_into(&mut self.lists, kept.cell as usize, number);
-        push_number(&mut self.numbers, number);
-        push_kept(&mut self.kept, kept);
+        put(&mut self.numbers, number);
+        put(&mut self.kept, kept);
         self.ready = false;
     }
 }
@@ -376,20 +376,13 @@ fn last_place(kept: &[Kept], cell: u32, thread: u32) -> Option<usize>
     None
 }
 
-fn push_number(numbers: &mut Vec<u32>, number: u32)
-    requires { vec_len numbers.old < vec_capacity numbers.old }
-    ensures items { numbers.new.items ≡ numbers.old.items ++ number ∷ [] }
-    ensures capacity { vec_capacity numbers.old ≤ vec_capacity numbers.new }
+// Adds the item. There is room for it.
+fn put<T: Drop>(list: &mut Vec<T>, item: T)
+    requires { vec_len list.old < vec_capacity list.old }
+    ensures items { list.new.items ≡ list.old.items ++ item ∷ [] }
+    ensures capacity { vec_capacity list.old ≤ vec_capacity list.new }
 {
-    let _ = numbers.push(number);
-}
-
-fn push_kept(all: &mut Vec<Kept>, kept: Kept)
-    requires { vec_len all.old < vec_capacity all.old }
-    ensures items { all.new.items ≡ all.old.items ++ kept ∷ [] }
-    ensures capacity { vec_capacity all.old ≤ vec_capacity all.new }
-{
-    let _ = all.push(kept);
+    let _ = list.push(item);
 }
 
 // The number behind the others of the list of a cell.
@@ -398,5 +391,5 @@ fn push_into(lists: &mut Vec<Vec<u32>>, cell: usize, number: u32)
     requires room { (list : Vec ℕ) → slice_get lists.old.items cell ≡ Some list → vec_len list < vec_capacity list }
     ensures pushed { HasPushed lists.old.items lists.new.items cell number }
 {
-    push_number(&mut lists[cell], number);
+    put(&mut lists[cell], number);
 }
