@@ -212,7 +212,7 @@ create_other : (events : List Event) (m k : ℕ) → At events k (λ e. is_creat
 create_other events m zero t lt same = omega arith
 create_other events m (suc p) t lt same = omega (arith, same, create_grows events m p t.event t.is t.holds (omega arith))
 
-mark_same : (events : List Event) (u m k : ℕ) → IsMark events u m → IsMark events u k → m ≡ k
+pub mark_same : (events : List Event) (u m k : ℕ) → IsMark events u m → IsMark events u k → m ≡ k
 mark_same events u m k (own t last) (own s last') = omega (arith, last k s, last' m t)
 mark_same events u m k (own t last) (made none s count) = absurd (none m t)
 mark_same events u m k (made none t count) (own s last) = absurd (none k s)

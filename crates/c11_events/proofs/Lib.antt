@@ -27,6 +27,7 @@ pub mod Reaches
 pub mod Acquiring
 pub mod Examples
 pub mod Deaths
+pub mod Passing
 pub mod Racing
 pub mod Newest
 pub mod Histories

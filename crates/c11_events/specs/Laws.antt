@@ -1,13 +1,15 @@
 -- The laws.
 use Rattle.std.specs.Prelude.{ℕ, ◌≡◌, ◌<◌, ◌≤◌, ◌↔◌, ◌⊎◌, suc, List, [], ◌∷◌, ◌++◌, Some, None, length}
+use Rattle.c11_events.specs.declared.order.Order.TheVariants.{Relaxed}
 use Rattle.c11_events.specs.declared.event.EventKind.{EventKind}
+use Rattle.c11_events.specs.declared.event.EventKind.TheVariants.{AtomicLoad}
 use Rattle.c11_events.specs.declared.event.Event.{Event}
 use Rattle.c11_events.specs.Events.{event_at, IsStore, ReadsEarlier, loaded_cell}
 use Rattle.c11_events.specs.Values.{written, value_of}
 use Rattle.c11_events.specs.HappensBefore.{HappensBefore, DirectlyBefore, AreOfThread}
-use Rattle.c11_events.specs.Lawful.{Lawful, Consistent, IsLastOf, IsLastStore}
+use Rattle.c11_events.specs.Lawful.{Lawful, Consistent, IsFence, IsLastOf, IsLastStore}
 use Rattle.c11_events.specs.Layout.{IsLayout}
-use Rattle.c11_events.specs.Dead.{AreOfLive, IsDead}
+use Rattle.c11_events.specs.Dead.{AreOfLive, IsMark, HasPassed, IsDead}
 use Rattle.c11_events.specs.Threads.{IsLive}
 use Rattle.c11_events.specs.Priors.{Fits, FitsPriors}
 use Rattle.c11_events.specs.declared.cells.CellInfo.{CellInfo}
@@ -81,6 +83,11 @@ OthersFit = (events : List Event) (e : Event) → ChainLawful events → loaded_
 abbrev pub DeadIsNotOffered : Type 0
 DeadIsNotOffered = (events more : List Event) (cell x u : ℕ) (reading : ℕ → EventKind) → AreOfLive (events ++ more) → IsDead events cell x → IsLive (events ++ more) u
     → loaded_cell (reading x) ≡ Some cell → IsOffered (events ++ more) u reading cell x → ⊥
+
+-- where no fence stands, a relaxed load of a thread is offered each store that the thread has not passed
+abbrev pub NotPassedIsOffered : Type 0
+NotPassedIsOffered = (events : List Event) (u cell x m : ℕ) → ChainLawful events → ((f : ℕ) → IsFence events f → ⊥) → IsStore events cell x → IsMark events u m
+    → (HasPassed events cell u x → ⊥) → IsOffered events u (λ y. AtomicLoad cell Relaxed) cell x
 
 -- where no earlier access raced, each access that races with n has a kept one after it, or is one, that races with n: so the
 -- latest that races is a kept one

@@ -1,4 +1,4 @@
-ghost use Rattle.c11_events.specs.Laws.{HappensBeforeRises, HappensBeforeStays, HappensBeforeNew, ConsistentIsChainLawful, ChainLawfulIsConsistent, PrefixIsConsistent, OffersAgree, LastIsOffered, SomeIsOffered, LayoutIsLawful, LayoutExists, ReadFits, OthersFit, ReadFitsPriors, DeadIsNotOffered, RacesAreKept, RacingIsKept, ValueByRead, OneThreadReadsLast, StepStaysConsistent, InitsAreConsistent, EventAdds, ReachOrders, ReachStays};
+ghost use Rattle.c11_events.specs.Laws.{HappensBeforeRises, HappensBeforeStays, HappensBeforeNew, ConsistentIsChainLawful, ChainLawfulIsConsistent, PrefixIsConsistent, OffersAgree, LastIsOffered, SomeIsOffered, LayoutIsLawful, LayoutExists, ReadFits, OthersFit, ReadFitsPriors, DeadIsNotOffered, NotPassedIsOffered, RacesAreKept, RacingIsKept, ValueByRead, OneThreadReadsLast, StepStaysConsistent, InitsAreConsistent, EventAdds, ReachOrders, ReachStays};
 
 /// Happens-before leads from smaller to larger numbers.
 pub fn happens_before_rises()
@@ -65,6 +65,11 @@ pub fn others_fit()
 /// A dead store is in no later offer.
 pub fn dead_is_not_offered()
     ensures { DeadIsNotOffered }
+{}
+
+/// What a thread has not passed is offered to a relaxed load of it, where no fence stands.
+pub fn not_passed_is_offered()
+    ensures { NotPassedIsOffered }
 {}
 
 /// Where no earlier access raced, the latest race is with the last write or with the latest read of a thread.
