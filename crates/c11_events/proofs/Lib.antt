@@ -28,6 +28,7 @@ pub mod Acquiring
 pub mod Examples
 pub mod Deaths
 pub mod Passing
+pub mod OneLayout
 pub mod Racing
 pub mod Newest
 pub mod Histories

@@ -7,7 +7,7 @@ use Rattle.c11_events.specs.declared.event.Event.{Event}
 use Rattle.c11_events.specs.Events.{event_at, IsStore, ReadsEarlier, loaded_cell}
 use Rattle.c11_events.specs.Values.{written, value_of}
 use Rattle.c11_events.specs.HappensBefore.{HappensBefore, DirectlyBefore, AreOfThread}
-use Rattle.c11_events.specs.Lawful.{Lawful, Consistent, IsFence, IsLastOf, IsLastStore}
+use Rattle.c11_events.specs.Lawful.{Precedes, Lawful, Consistent, IsFence, IsLastOf, IsLastStore}
 use Rattle.c11_events.specs.Layout.{IsLayout}
 use Rattle.c11_events.specs.Dead.{AreOfLive, IsMark, HasPassed, IsDead}
 use Rattle.c11_events.specs.Threads.{IsLive}
@@ -64,6 +64,11 @@ LayoutIsLawful = (events : List Event) (cell : ℕ) (order : List ℕ) → Chain
 
 abbrev pub LayoutExists : Type 0
 LayoutExists = (events : List Event) (cell : ℕ) → ChainLawful events → (order : List ℕ) × IsLayout events cell order
+
+-- and one only: two layouts of a cell have its stores in the same order
+abbrev pub LayoutIsOne : Type 0
+LayoutIsOne = (events : List Event) (cell : ℕ) (order other : List ℕ) → ChainLawful events → IsLayout events cell order → IsLayout events cell other
+    → (x y : ℕ) → Precedes order x y → Precedes other x y
 
 -- a read is offered exactly where it fits the chains of the list before it
 abbrev pub ReadFits : Type 0
