@@ -6,7 +6,7 @@ use Rattle.c11_events.specs.declared.event.Event.{Event}
 use Rattle.c11_events.specs.Lawful.{Precedes}
 use Rattle.c11_events.specs.Chains.{IsRanked}
 use Rattle.c11_events.specs.Layout.{IsHead, IsLayout}
-use Rattle.c11_events.specs.Laws.{LayoutIsOne}
+use Rattle.c11_events.specs.Laws.{LayoutIsOne, LayoutRises}
 use Rattle.c11_events.proofs.Basics.{chain_head}
 use Rattle.c11_events.proofs.Level.{head_of, links_from}
 use Rattle.c11_events.proofs.Orders.{before_places, before_irreflexive, before_transitive, before_or}
@@ -76,3 +76,8 @@ layout_one events cell order other c first second x y b =
         (λ (no'' : j < i → ⊥). let same : j ≡ i = omega arith in
         let is : y ≡ x = ranked_one events cell (c.once cell) h i y x (subst (λ (z : ℕ). IsRanked events cell h z y) same ry) rx in
         subst (λ (z : ℕ). Precedes order x z) is b)
+
+pub layout_rises : LayoutRises
+layout_rises events cell order h k layout unlinked rh rk b = dite (dec_lt h k) (λ (lt : h < k). lt)
+    (λ (no' : h < k → ⊥). dite (dec_lt k h) (λ (less : k < h). let t = layout.least h k rh rk b less in absurd (unlinked t.0 k t.1.0))
+    (λ (no'' : k < h → ⊥). let same : k ≡ h = omega arith in absurd (before_irreflexive events cell order layout.stores h (subst (λ (z : ℕ). Precedes order h z) same b))))

@@ -8,7 +8,7 @@ use Rattle.c11_events.specs.Events.{event_at, IsStore, ReadsEarlier, loaded_cell
 use Rattle.c11_events.specs.Values.{written, value_of}
 use Rattle.c11_events.specs.HappensBefore.{HappensBefore, DirectlyBefore, AreOfThread}
 use Rattle.c11_events.specs.Lawful.{Precedes, Lawful, Consistent, IsFence, IsLastOf, IsLastStore}
-use Rattle.c11_events.specs.Layout.{IsLayout}
+use Rattle.c11_events.specs.Layout.{IsHead, IsLayout}
 use Rattle.c11_events.specs.Dead.{AreOfLive, IsMark, HasPassed, IsDead}
 use Rattle.c11_events.specs.Threads.{IsLive}
 use Rattle.c11_events.specs.Priors.{Fits, FitsPriors}
@@ -19,7 +19,7 @@ use Rattle.c11_events.specs.EventOf.{events_of}
 use Rattle.c11_events.specs.Replies.{Setting}
 use Rattle.c11_events.specs.Steps.{IsStep, init_entries}
 use Rattle.c11_events.specs.Races.{Races, IsRacing, Kept}
-use Rattle.c11_events.specs.Chains.{ChainLawful}
+use Rattle.c11_events.specs.Chains.{Links, ChainLawful}
 use Rattle.c11_events.specs.Offered.{IsOffered, Offered, ChainOffered}
 use Rattle.c11_events.specs.Added.{ReadsStore, Adds, OrdersStores, KeepsStores}
 
@@ -69,6 +69,11 @@ LayoutExists = (events : List Event) (cell : ℕ) → ChainLawful events → (or
 abbrev pub LayoutIsOne : Type 0
 LayoutIsOne = (events : List Event) (cell : ℕ) (order other : List ℕ) → ChainLawful events → IsLayout events cell order → IsLayout events cell other
     → (x y : ℕ) → Precedes order x y → Precedes other x y
+
+-- where no chain is linked to another, a layout has their heads rising
+abbrev pub LayoutRises : Type 0
+LayoutRises = (events : List Event) (cell : ℕ) (order : List ℕ) (h k : ℕ) → IsLayout events cell order → ((j l : ℕ) → Links events cell j l → ⊥)
+    → IsHead events cell h → IsHead events cell k → Precedes order h k → h < k
 
 -- a read is offered exactly where it fits the chains of the list before it
 abbrev pub ReadFits : Type 0

@@ -1,4 +1,4 @@
-ghost use Rattle.c11_events.specs.Laws.{HappensBeforeRises, HappensBeforeStays, HappensBeforeNew, ConsistentIsChainLawful, ChainLawfulIsConsistent, PrefixIsConsistent, OffersAgree, LastIsOffered, SomeIsOffered, LayoutIsLawful, LayoutExists, LayoutIsOne, ReadFits, OthersFit, ReadFitsPriors, DeadIsNotOffered, NotPassedIsOffered, RacesAreKept, RacingIsKept, ValueByRead, OneThreadReadsLast, StepStaysConsistent, InitsAreConsistent, EventAdds, ReachOrders, ReachStays};
+ghost use Rattle.c11_events.specs.Laws.{HappensBeforeRises, HappensBeforeStays, HappensBeforeNew, ConsistentIsChainLawful, ChainLawfulIsConsistent, PrefixIsConsistent, OffersAgree, LastIsOffered, SomeIsOffered, LayoutIsLawful, LayoutExists, LayoutIsOne, LayoutRises, ReadFits, OthersFit, ReadFitsPriors, DeadIsNotOffered, NotPassedIsOffered, RacesAreKept, RacingIsKept, ValueByRead, OneThreadReadsLast, StepStaysConsistent, InitsAreConsistent, EventAdds, ReachOrders, ReachStays};
 
 /// Happens-before leads from smaller to larger numbers.
 pub fn happens_before_rises()
@@ -41,11 +41,13 @@ pub fn last_is_offered()
     ensures some { SomeIsOffered }
 {}
 
-/// A chain-lawful list has a layout of each cell, and one only, and a layout is lawful.
+/// A chain-lawful list has a layout of each cell, and one only, and a layout is lawful; where no chain is linked to
+/// another their heads rise in it.
 pub fn layouts()
     ensures exists { LayoutExists }
     ensures lawful { LayoutIsLawful }
     ensures one { LayoutIsOne }
+    ensures rises { LayoutRises }
 {}
 
 /// A read keeps a list chain-lawful exactly where it fits the chains of the list.

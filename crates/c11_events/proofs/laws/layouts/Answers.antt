@@ -1,5 +1,5 @@
 use Rattle.c11_events.proofs.Layouts.{layout_exists, layout_lawful}
-use Rattle.c11_events.proofs.OneLayout.{layout_one}
+use Rattle.c11_events.proofs.OneLayout.{layout_one, layout_rises}
 use Rattle.c11_events.proofs.laws.layouts.Goals as goal
 
 pub returns-clause-exists : goal.returns-clause-exists
@@ -10,3 +10,6 @@ returns-clause-lawful c = layout_lawful
 
 pub returns-clause-one : goal.returns-clause-one
 returns-clause-one c = layout_one
+
+pub returns-clause-rises : goal.returns-clause-rises
+returns-clause-rises c = layout_rises
