@@ -1,4 +1,4 @@
-ghost use Rattle.std.specs.Prelude.{◌≡◌, ◌↔◌, IsTrue, IfOk, IfErr, true, neg_ℤ};
+ghost use Rattle.std.specs.Prelude.{◌≡◌, IfOk, IfErr, neg_ℤ};
 ghost use Rattle.c11_num.specs.Ranges.{IsInRange};
 ghost use Rattle.c11_num.specs.Wrapping as modular;
 ghost use Rattle.c11_num.specs.Arithmetic as spec;

@@ -1,6 +1,6 @@
 //! Arithmetic on two values of one type, by the exact result.
 
-ghost use Rattle.std.specs.Prelude.{◌≡◌, pos, ◌+ℤ◌, ◌-ℤ◌, ◌*ℤ◌, ◌≤ℤ◌, int_div, int_rem};
+ghost use Rattle.std.specs.Prelude.{◌≡◌, ◌+ℤ◌, ◌-ℤ◌, ◌*ℤ◌, int_div, int_rem};
 ghost use Rattle.c11_num.specs.Operators as spec;
 
 use crate::arithmetic::is_signed;
