@@ -1,4 +1,5 @@
 pub mod Causes
+pub mod Laws
 pub mod Memory
 pub mod Whole
 pub mod Standard

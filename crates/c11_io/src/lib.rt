@@ -3,6 +3,7 @@
 #![tactic(auto)]
 
 mod gate;
+pub mod laws;
 mod memory_sink;
 mod memory_source;
 mod sink;
