@@ -1,8 +1,7 @@
 -- What the definitions of counts and stops come to.
-use Rattle.std.proofs.Common.{◌≡◌, ℕ, ◌+◌, ◌-◌, ◌<◌, ◌≤◌, ◌^◌, List, ◌++◌, length, take, drop, min, Some, arith, ap, sym, ◌∙◌, length-append, length-take, length-drop, inl, inr}
+use Rattle.std.proofs.Common.{◌≡◌, ℕ, ◌+◌, ◌<◌, ◌≤◌, List, ◌++◌, length, take, drop, Some, arith, ap, inl, inr}
 use Rattle.std.proofs.lemmas.Grind.{common_steps}
-use Rattle.c11_io.specs.Causes.{Rose}
-use Rattle.c11_io.specs.Whole.{AppendsPart, OneRose, LosesFront, LosesAtMost}
+use Rattle.c11_io.specs.Whole.{LosesAtMost}
 use Rattle.c11_io.specs.Laws.{NoRiseWhereItStays, OneCountStays, StopsBeforeTheLast, FaultTakesTheLimit, NoMemoryTakesTheLimit, TooLongTakesOneMore}
 
 pub no_rise : NoRiseWhereItStays
