@@ -6,3 +6,4 @@ mod Numbers
 mod Directives
 mod Scanning
 mod EveryText
+mod Slices

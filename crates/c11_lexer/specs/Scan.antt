@@ -1,5 +1,5 @@
 -- The tokens of a text by longest match, or its first fault (ISO/IEC 9899:2011, 6.4).
-use Rattle.std.specs.Prelude.{◌≡◌, ◌≤◌, ◌<◌, ℕ, ◌+◌, ◌==◌, nat_lt, ◌&&◌, Bool, true, false, if◌then◌else◌, List, [], ◌∷◌, ◌++◌, length, take, drop, Result, Ok, Err}
+use Rattle.std.specs.Prelude.{◌≡◌, ◌≤◌, ◌<◌, ℕ, ◌+◌, ◌==◌, nat_lt, ◌&&◌, Bool, true, false, if◌then◌else◌, List, [], ◌∷◌, ◌++◌, length, take, drop, All, Result, Ok, Err}
 use Rattle.c11_num.specs.Ranges.{TypedNumber}
 use Rattle.c11_lexer.specs.declared.piece.Piece.{Piece}
 use Rattle.c11_lexer.specs.declared.piece.Piece.TheVariants as p
@@ -113,6 +113,10 @@ pub data Rise : ℕ → List Token → ℕ → Type 0 where
 
 abbrev pub SlicesRise : Type 0
 SlicesRise = (text : Text) (tokens : List Token) → Scan text (Ok tokens) → Rise 0 tokens (length text)
+
+-- No slice that rises is empty.
+abbrev pub SlicesAreSome : Type 0
+SlicesAreSome = (from last : ℕ) (tokens : List Token) → Rise from tokens last → All (λ (token : Token). token.start < token.end) tokens
 
 -- ---- one step of the code
 

@@ -1,7 +1,5 @@
 //! Places in a text.
 
-ghost use Rattle.std.specs.Prelude.{◌≡◌, ◌≤◌, ◌<◌, ◌+◌, ◌^◌, length};
-
 /// A place in a text.
 #[derive(Clone, Copy, Debug)]
 pub struct Cursor {

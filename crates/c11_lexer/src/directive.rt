@@ -1,6 +1,6 @@
 //! Directives (ISO/IEC 9899:2011, 6.10.2 and 6.10.3).
 
-ghost use Rattle.std.specs.Prelude.{◌≡◌, ◌≤◌, ◌<◌, ◌+◌, ◌↔◌, [], length, slice_index, IsTrue, IfOk, IfSome, IfNone, codes};
+ghost use Rattle.std.specs.Prelude.{◌≡◌, ◌≤◌, ◌<◌, ◌↔◌, [], length, slice_index, IsTrue, IfOk, IfSome, IfNone, codes};
 ghost use Rattle.c11_lexer.specs.Pieces.{Text};
 ghost use Rattle.c11_lexer.specs.Pieces as pieces;
 ghost use Rattle.c11_lexer.specs.Directives as spec;

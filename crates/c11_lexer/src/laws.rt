@@ -1,7 +1,7 @@
 //! Laws of the definitions. Each function does nothing: its contract is the law.
 
 ghost use Rattle.c11_lexer.specs.Pieces.{SomeLongest, OneLongest};
-ghost use Rattle.c11_lexer.specs.Scan.{SomeScan, OneScan, SlicesRise};
+ghost use Rattle.c11_lexer.specs.Scan.{SomeScan, OneScan, SlicesRise, SlicesAreSome};
 
 /// Each text that is not empty begins with a longest piece.
 pub fn some_longest()
@@ -21,6 +21,11 @@ pub fn some_scan()
 /// A text has one Scan at most: its tokens or its first fault, never both, never two.
 pub fn one_scan()
     ensures { OneScan }
+{}
+
+/// Slices that rise have a byte each.
+pub fn slices_are_some()
+    ensures { SlicesAreSome }
 {}
 
 /// The slices of a text's tokens rise and lie inside the text.

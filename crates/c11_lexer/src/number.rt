@@ -1,6 +1,6 @@
 //! Integer constants (ISO/IEC 9899:2011, 6.4.4.1).
 
-ghost use Rattle.std.specs.Prelude.{◌≡◌, ◌≤◌, ◌<◌, ◌+◌, ◌*◌, ◌^◌, ◌↔◌, ◌⊎◌, length, take, drop, IsTrue, IfSome, IfNone, SomeIff, option_map, pos};
+ghost use Rattle.std.specs.Prelude.{◌≡◌, ◌≤◌, ◌<◌, ◌+◌, ◌*◌, ◌^◌, ◌↔◌, length, IsTrue, IfSome, IfNone, SomeIff, option_map, pos};
 ghost use Rattle.std.specs.Char.{digit_value};
 ghost use Rattle.std.specs.Str.Parse.{digits_value};
 ghost use Rattle.c11_num.specs.Ranges.{TypedNumber, IsInRange};

@@ -1,6 +1,6 @@
 //! The longest piece at the front of a text (ISO/IEC 9899:2011, 6.4).
 
-ghost use Rattle.std.specs.Prelude.{◌≡◌, ◌≤◌, ◌<◌, ◌+◌, ◌^◌, length, IfOk};
+ghost use Rattle.std.specs.Prelude.{◌≡◌, ◌<◌, ◌+◌, ◌^◌, length, IfOk};
 ghost use Rattle.c11_lexer.specs.Pieces as spec;
 ghost use Rattle.c11_lexer.specs.Reading as reading;
 
