@@ -176,3 +176,42 @@ fn a_standard_writer_is_a_sink(rt: HostRuntime) -> Result<(), Fail> {
 fn an_open_gate_returns() {
     OpenGate.pass(0, 0);
 }
+
+/// Fails its first call, and does its work at the next ones.
+#[derive(Drop)]
+struct Interrupted {
+    calls: u8,
+}
+
+impl Read for Interrupted {
+    fn read(&mut self, buf: &mut [u8]) -> io::Result<usize> {
+        if self.calls == 0 {
+            self.calls = 1;
+            return Err(io::Error::from(io::ErrorKind::Interrupted));
+        }
+        Ok(0)
+    }
+}
+
+impl Write for Interrupted {
+    fn write(&mut self, buf: &[u8]) -> io::Result<usize> {
+        if self.calls == 0 {
+            self.calls = 1;
+            return Err(io::Error::from(io::ErrorKind::Interrupted));
+        }
+        Ok(buf.len())
+    }
+
+    fn flush(&mut self) -> io::Result<()> {
+        Ok(())
+    }
+}
+
+#[test]
+fn an_interrupted_call_is_a_fault_and_is_not_tried_again(rt: HostRuntime) {
+    let alloc = rt.alloc();
+    let stop = read_all(alloc, &mut StdSource::new(Interrupted { calls: 0 }), 10).err();
+    assert_eq!(rt; stop, Some(ReadStop::Fault));
+    let stop = write_all(&mut StdSink::new(Interrupted { calls: 0 }), DIGITS);
+    assert_eq!(rt; stop, Err(WriteStop::Fault));
+}

@@ -282,3 +282,34 @@ fn words_and_texts_have_limits(rt: HostRuntime) -> Result<(), Fail> {
     assert!(rt; scanned(&rt, alloc, b"/*\xff\x00*/ //\x80").is_ok());
     Ok(())
 }
+
+// Doubled marks that are none, a comment that ends in two stars, and octal numbers with a suffix (ISO/IEC 9899:2011, 6.4.4.1 and 6.4.6).
+#[test]
+fn pieces_that_are_easily_mistaken(rt: HostRuntime) -> Result<(), Fail> {
+    let zeros = "000000000000000000000";
+    let octal = format!(in rt.alloc(); "01{zeros}l")?;
+    let octal_row = format!(in rt.alloc(); "1:1 01{zeros}l ULong 9223372036854775808; ")?;
+    let cases = [
+        ("!!x", "1:1 ! mark; 1:2 ! mark; 1:3 x word; "),
+        ("a=-b", "1:1 a word; 1:2 = mark; 1:3 - mark; 1:4 b word; "),
+        ("a/***/b", "1:1 a word; 1:7 b word; "),
+        ("040000000000", "1:1 040000000000 Long 4294967296; "),
+        (octal.as_str(), octal_row.as_str()),
+        ("0x1uL", "1:1 0x1uL ULong 1; "),
+        ("010U", "1:1 010U Unsigned 8; "),
+    ];
+    for (text, want) in cases {
+        assert_eq!(rt;
+            shown(&rt, rt.alloc(), text.as_bytes())?.as_str(),
+            want,
+            "at {text}"
+        );
+    }
+    for text in ["1ll", "1LL", "1ull"] {
+        assert!(rt;
+            scanned(&rt, rt.alloc(), text.as_bytes()).err() == Some(LexFault::Literal(1, 1)),
+            "at {text}"
+        );
+    }
+    Ok(())
+}

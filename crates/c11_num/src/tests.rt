@@ -214,7 +214,7 @@ fn sums_are_those_of_the_common_type(rt: HostRuntime) {
 
 #[test]
 fn shifts_have_the_type_of_the_left_operand(rt: HostRuntime) {
-    let rows: [(BinaryOp, (CType, i128), (CType, i128), (CType, i128)); 11] = [
+    let rows: [(BinaryOp, (CType, i128), (CType, i128), (CType, i128)); 12] = [
         (Shl, (Int, 1), (Int, 30), (Int, 1_073_741_824)),
         (Shl, (Int, 3), (ULong, 29), (Int, 1_610_612_736)),
         (Shl, (Unsigned, 1), (Int, 31), (Unsigned, 2_147_483_648)),
@@ -236,6 +236,7 @@ fn shifts_have_the_type_of_the_left_operand(rt: HostRuntime) {
             (Int, 63),
             (ULong, 9_223_372_036_854_775_808),
         ),
+        (Shl, (Int, 0), (Int, 31), (Int, 0)),
         (Shr, (Int, -5), (Int, 1), (Int, -3)),
         (Shr, (Int, INT_MIN), (Long, 31), (Int, -1)),
         (Shr, (Unsigned, UINT_MAX), (Int, 31), (Unsigned, 1)),
@@ -342,4 +343,43 @@ fn texts_give_back_what_they_were_made_of(rt: HostRuntime) -> Result<(), Fail> {
     assert_eq!(rt; name.copy()?.as_slice(), b"head".as_slice());
     assert!(rt; NoMemory::from(AllocError) == NoMemory);
     Ok(())
+}
+
+// The values are those of a C compiler: atomic_fetch_add and its kin on an atomic object of the old value's type, with an argument
+// of the operand's.
+#[test]
+fn an_operand_of_another_type_counts_as_if_converted(rt: HostRuntime) {
+    let rows: [(RmwKind, (CType, i128), (CType, i128), i128); 6] = [
+        (RmwKind::Exchange, (Int, 1), (Long, 4_294_967_301), 5),
+        (RmwKind::Add, (Int, 1), (Long, 4_294_967_297), 2),
+        (RmwKind::Sub, (ULong, 0), (Unsigned, 1), ULONG_MAX),
+        (RmwKind::And, (Long, -1), (Unsigned, UINT_MAX), UINT_MAX),
+        (RmwKind::Or, (ULong, 0), (Int, -1), ULONG_MAX),
+        (RmwKind::Xor, (Unsigned, 0), (Long, -1), UINT_MAX),
+    ];
+    for (kind, old, operand, new) in rows {
+        match (value(old), value(operand)) {
+            (Some(old), Some(operand)) => {
+                let made = wrapping(kind, old, operand);
+                assert!(rt; made.ctype() == old.ctype(), "{kind:?}");
+                assert_eq!(rt; made.number(), new, "{kind:?}");
+            }
+            _ => assert!(rt; false, "{kind:?}"),
+        }
+    }
+    let conversions: [((CType, i128), CType, i128); 4] = [
+        ((Long, 4_294_967_301), Unsigned, 5),
+        ((Unsigned, 2_147_483_648), Int, INT_MIN),
+        ((Long, INT_MIN), Unsigned, 2_147_483_648),
+        ((ULong, 9_223_372_036_854_775_808), Long, LONG_MIN),
+    ];
+    for (from, to, new) in conversions {
+        match value(from) {
+            Some(old) => {
+                let made = convert(old, to);
+                assert!(rt; made.ctype() == to && made.number() == new, "{from:?}");
+            }
+            None => assert!(rt; false, "{from:?}"),
+        }
+    }
 }

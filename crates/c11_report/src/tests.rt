@@ -447,3 +447,123 @@ fn the_last_line_is_the_verdict(rt: HostRuntime) -> Result<(), Fail> {
     );
     Ok(())
 }
+
+#[test]
+fn each_kind_has_its_word(rt: HostRuntime) -> Result<(), Fail> {
+    let alloc = rt.alloc();
+    let kinds = [
+        (RmwKind::Sub, "rmw x relaxed sub -1"),
+        (RmwKind::And, "rmw x relaxed and -1"),
+        (RmwKind::Or, "rmw x relaxed or -1"),
+        (RmwKind::Xor, "rmw x relaxed xor -1"),
+    ];
+    for (kind, words) in kinds {
+        let op = Op::Rmw {
+            cell: 0,
+            order: Order::Relaxed,
+            kind,
+            operand: int(-1),
+        };
+        assert!(rt; prints(alloc, op, Reply::Done, words)?);
+    }
+    let stops = [
+        (StopKind::Assert, "stop assert"),
+        (StopKind::Local, "stop local"),
+        (StopKind::Divide, "stop divide"),
+        (StopKind::Shift, "stop shift"),
+        (StopKind::Bounds, "stop bounds"),
+        (StopKind::Depth, "stop depth"),
+    ];
+    for (kind, words) in stops {
+        assert!(rt; prints(alloc, Op::Stop { kind }, Reply::Done, words)?);
+    }
+    let faults = [
+        (
+            FaultKind::Overflow,
+            "c11t 1 run seed 0 steps 1\nverdict fault overflow\n",
+        ),
+        (
+            FaultKind::Divide,
+            "c11t 1 run seed 0 steps 1\nverdict fault divide\n",
+        ),
+        (
+            FaultKind::Shift,
+            "c11t 1 run seed 0 steps 1\nverdict fault shift\n",
+        ),
+        (
+            FaultKind::Bounds,
+            "c11t 1 run seed 0 steps 1\nverdict fault bounds\n",
+        ),
+        (
+            FaultKind::Depth,
+            "c11t 1 run seed 0 steps 1\nverdict fault depth\n",
+        ),
+        (
+            FaultKind::Threads,
+            "c11t 1 run seed 0 steps 1\nverdict fault threads\n",
+        ),
+        (
+            FaultKind::Mutex,
+            "c11t 1 run seed 0 steps 1\nverdict fault mutex\n",
+        ),
+        (
+            FaultKind::Unlock,
+            "c11t 1 run seed 0 steps 1\nverdict fault unlock\n",
+        ),
+    ];
+    for (kind, lines) in faults {
+        assert!(rt; ends(alloc, Verdict::Fault(kind), lines)?);
+    }
+    let acquire = Op::AtomicLoad {
+        cell: 0,
+        order: Order::Acquire,
+    };
+    assert!(rt;
+        prints_read(
+            alloc,
+            acquire,
+            Reply::Value(int(10)),
+            "load x acquire = 10 from 3 of 1 3"
+        )?
+    );
+    Ok(())
+}
+
+#[test]
+fn what_a_fault_leaves_out_is_left_out(rt: HostRuntime) -> Result<(), Fail> {
+    let alloc = rt.alloc();
+    assert!(rt;
+        prints(
+            alloc,
+            Op::Join { thread: 3 },
+            Reply::Fault(FaultKind::Join),
+            "join t3"
+        )?
+    );
+    assert!(rt;
+        prints(
+            alloc,
+            Op::Lock { mutex: 0 },
+            Reply::Fault(FaultKind::Mutex),
+            "lock m"
+        )?
+    );
+    assert!(rt;
+        prints(
+            alloc,
+            Op::TryLock { mutex: 0 },
+            Reply::Fault(FaultKind::Mutex),
+            "trylock m"
+        )?
+    );
+    assert!(rt;
+        prints(
+            alloc,
+            Op::MutexInit { mutex: 0 },
+            Reply::Fault(FaultKind::Mutex),
+            "minit m"
+        )?
+    );
+    assert!(rt; prints(alloc, Op::Unlock { mutex: 0 }, Reply::Done, "unlock m")?);
+    Ok(())
+}

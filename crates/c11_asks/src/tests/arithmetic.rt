@@ -225,3 +225,147 @@ fn conversions_keep_what_fits(rt: HostRuntime) -> Result<(), Fail> {
     ];
     tell(&rt, rt.alloc(), CONVERSIONS, &rows)
 }
+
+const BRANCHES: &str = "#define U 1u
+atomic_long l;
+atomic_uint a;
+unsigned p, q[2];
+mtx_t m;
+unsigned g(unsigned x) { return x; }
+int f(void *x) { return 0; }
+int main(void) {
+  unsigned v = 1; int i = 1; thrd_t t;
+  l = 1 ? -1 : (1 << 1u);
+  l = 1 ? -1 : (1 >> 1u);
+  l = 1 ? -1 : (1u < 2u);
+  l = 1 ? -1 : (1u > 2u);
+  l = 1 ? -1 : (1u <= 2u);
+  l = 1 ? -1 : (1u >= 2u);
+  l = 1 ? -1 : (1u == 2u);
+  l = 1 ? -1 : (1u != 2u);
+  l = 1 ? -1 : (1u && 1u);
+  l = 1 ? -1 : (1u || 1u);
+  l = 1 ? -1 : !1u;
+  l = 1 ? -1 : (int) 1u;
+  l = 1 ? -1 : (i = 1u);
+  l = 1 ? -1 : atomic_compare_exchange_strong(&a, &v, 1);
+  l = 1 ? -1 : mtx_init(&m, mtx_plain);
+  l = 1 ? -1 : mtx_lock(&m);
+  l = 1 ? -1 : mtx_trylock(&m);
+  l = 1 ? -1 : mtx_unlock(&m);
+  l = 1 ? -1 : thrd_create(&t, f, 0);
+  l = 1 ? -1 : thrd_join(t, 0);
+  l = 1 ? -1 : printf(\"\");
+  l = 1 ? -1 : i;
+  l = 1 ? -1 : mtx_plain;
+  l = 1 ? -1 : 1u * 1;
+  l = 1 ? -1 : 1 / 1u;
+  l = 1 ? -1 : 1u % 1;
+  l = 1 ? -1 : 1 + 1u;
+  l = 1 ? -1 : 1u - 1;
+  l = 1 ? -1 : 1 & 1u;
+  l = 1 ? -1 : 1 ^ 1u;
+  l = 1 ? -1 : 1u | 1;
+  l = 1 ? -1 : 1u << 1;
+  l = 1 ? -1 : 1u >> 1;
+  l = 1 ? -1 : -1u;
+  l = 1 ? -1 : +1u;
+  l = 1 ? -1 : ~1u;
+  l = 1 ? -1 : (unsigned) 1;
+  l = 1 ? -1 : g(1);
+  l = 1 ? -1 : v;
+  l = 1 ? -1 : p;
+  l = 1 ? -1 : q[0];
+  l = 1 ? -1 : a;
+  l = 1 ? -1 : U;
+  l = 1 ? -1 : (v = 1);
+  l = 1 ? -1 : (v += 1);
+  l = 1 ? -1 : v++;
+  l = 1 ? -1 : --v;
+  l = 1 ? -1 : a++;
+  l = 1 ? -1 : atomic_load(&a);
+  l = 1 ? -1 : atomic_load_explicit(&a, memory_order_relaxed);
+  l = 1 ? -1 : atomic_exchange(&a, 1);
+  l = 1 ? -1 : atomic_fetch_add(&a, 1);
+  l = 1 ? -1 : (0 ? 1 : 1u);
+  l = 1 ? -1 : 1 + 1u + 1;
+  l = (1 ? 2147483647 : NULL) + 1;
+  l = (1 ? 2147483647 : (void *) 1) + 1;
+  l = (1 ? 2147483647 : (long) 1) + 1;
+  l = (1 ? 2147483647 : 1l) + 1;
+  l = (1 ? -1 : (unsigned long) 1) > 0;
+  l = 0 ? 1u : -1;
+  l = (0 ? NULL : 2147483647) + 1;
+}
+";
+
+// The branch that is taken is converted to the common type of both (ISO/IEC 9899:2011, 6.5.15), so each row tells the type of the other.
+#[test]
+fn branches_have_the_common_type(rt: HostRuntime) -> Result<(), Fail> {
+    let rows = [
+        (0, "begin", Told::Began(2, 0)),
+        (10, "store 0 SeqCst -1 Long", Told::Done),
+        (11, "store 0 SeqCst -1 Long", Told::Done),
+        (12, "store 0 SeqCst -1 Long", Told::Done),
+        (13, "store 0 SeqCst -1 Long", Told::Done),
+        (14, "store 0 SeqCst -1 Long", Told::Done),
+        (15, "store 0 SeqCst -1 Long", Told::Done),
+        (16, "store 0 SeqCst -1 Long", Told::Done),
+        (17, "store 0 SeqCst -1 Long", Told::Done),
+        (18, "store 0 SeqCst -1 Long", Told::Done),
+        (19, "store 0 SeqCst -1 Long", Told::Done),
+        (20, "store 0 SeqCst -1 Long", Told::Done),
+        (21, "store 0 SeqCst -1 Long", Told::Done),
+        (22, "store 0 SeqCst -1 Long", Told::Done),
+        (23, "store 0 SeqCst -1 Long", Told::Done),
+        (24, "store 0 SeqCst -1 Long", Told::Done),
+        (25, "store 0 SeqCst -1 Long", Told::Done),
+        (26, "store 0 SeqCst -1 Long", Told::Done),
+        (27, "store 0 SeqCst -1 Long", Told::Done),
+        (28, "store 0 SeqCst -1 Long", Told::Done),
+        (29, "store 0 SeqCst -1 Long", Told::Done),
+        (30, "store 0 SeqCst -1 Long", Told::Done),
+        (31, "store 0 SeqCst -1 Long", Told::Done),
+        (32, "store 0 SeqCst -1 Long", Told::Done),
+        (33, "store 0 SeqCst 4294967295 Long", Told::Done),
+        (34, "store 0 SeqCst 4294967295 Long", Told::Done),
+        (35, "store 0 SeqCst 4294967295 Long", Told::Done),
+        (36, "store 0 SeqCst 4294967295 Long", Told::Done),
+        (37, "store 0 SeqCst 4294967295 Long", Told::Done),
+        (38, "store 0 SeqCst 4294967295 Long", Told::Done),
+        (39, "store 0 SeqCst 4294967295 Long", Told::Done),
+        (40, "store 0 SeqCst 4294967295 Long", Told::Done),
+        (41, "store 0 SeqCst 4294967295 Long", Told::Done),
+        (42, "store 0 SeqCst 4294967295 Long", Told::Done),
+        (43, "store 0 SeqCst 4294967295 Long", Told::Done),
+        (44, "store 0 SeqCst 4294967295 Long", Told::Done),
+        (45, "store 0 SeqCst 4294967295 Long", Told::Done),
+        (46, "store 0 SeqCst 4294967295 Long", Told::Done),
+        (47, "store 0 SeqCst 4294967295 Long", Told::Done),
+        (48, "store 0 SeqCst 4294967295 Long", Told::Done),
+        (49, "store 0 SeqCst 4294967295 Long", Told::Done),
+        (50, "store 0 SeqCst 4294967295 Long", Told::Done),
+        (51, "store 0 SeqCst 4294967295 Long", Told::Done),
+        (52, "store 0 SeqCst 4294967295 Long", Told::Done),
+        (53, "store 0 SeqCst 4294967295 Long", Told::Done),
+        (54, "store 0 SeqCst 4294967295 Long", Told::Done),
+        (55, "store 0 SeqCst 4294967295 Long", Told::Done),
+        (56, "store 0 SeqCst 4294967295 Long", Told::Done),
+        (57, "store 0 SeqCst 4294967295 Long", Told::Done),
+        (58, "store 0 SeqCst 4294967295 Long", Told::Done),
+        (59, "store 0 SeqCst 4294967295 Long", Told::Done),
+        (60, "store 0 SeqCst 4294967295 Long", Told::Done),
+        (61, "store 0 SeqCst 4294967295 Long", Told::Done),
+        (62, "store 0 SeqCst 4294967295 Long", Told::Done),
+        (63, "store 0 SeqCst 4294967295 Long", Told::Done),
+        (64, "store 0 SeqCst 2147483648 Long", Told::Done),
+        (65, "store 0 SeqCst 2147483648 Long", Told::Done),
+        (66, "store 0 SeqCst 2147483648 Long", Told::Done),
+        (67, "store 0 SeqCst 2147483648 Long", Told::Done),
+        (68, "store 0 SeqCst 1 Long", Told::Done),
+        (69, "store 0 SeqCst 4294967295 Long", Told::Done),
+        (70, "store 0 SeqCst 2147483648 Long", Told::Done),
+        (71, "end 0", Told::Last),
+    ];
+    tell(&rt, rt.alloc(), BRANCHES, &rows)
+}

@@ -203,3 +203,24 @@ fn a_handle_keeps_the_number_of_its_thread(rt: HostRuntime) -> Result<(), Fail> 
     ];
     tell(&rt, rt.alloc(), THREADS, &other)
 }
+
+// Two hundred bytes and eight numbers of twenty digits.
+const WIDE: &str = "#include <stdio.h>
+int main(void) {
+  return printf(\"xxxxxxxxxxxxxxxxxxxxxxxxxxxxxxxxxxxxxxxxxxxxxxxxxxxxxxxxxxxxxxxxxxxxxxxxxxxxxxxxxxxxxxxxxxxxxxxxxxxxxxxxxxxxxxxxxxxxxxxxxxxxxxxxxxxxxxxxxxxxxxxxxxxxxxxxxxxxxxxxxxxxxxxxxxxxxxxxxxxxxxxxxxxxxxxxxxxxxxxx%lu%lu%lu%lu%lu%lu%lu%lu\", -1, -1, -1, -1, -1, -1, -1, -1);
+}
+";
+
+#[test]
+fn a_print_may_be_wide(rt: HostRuntime) -> Result<(), Fail> {
+    let rows = [
+        (0, "begin", Told::Began(0, 0)),
+        (
+            3,
+            "out xxxxxxxxxxxxxxxxxxxxxxxxxxxxxxxxxxxxxxxxxxxxxxxxxxxxxxxxxxxxxxxxxxxxxxxxxxxxxxxxxxxxxxxxxxxxxxxxxxxxxxxxxxxxxxxxxxxxxxxxxxxxxxxxxxxxxxxxxxxxxxxxxxxxxxxxxxxxxxxxxxxxxxxxxxxxxxxxxxxxxxxxxxxxxxxxxxxxxxxx1844674407370955161518446744073709551615184467440737095516151844674407370955161518446744073709551615184467440737095516151844674407370955161518446744073709551615",
+            Told::Done,
+        ),
+        (3, "end 360", Told::Last),
+    ];
+    tell(&rt, rt.alloc(), WIDE, &rows)
+}

@@ -324,3 +324,21 @@ fn indexes_come_before_values_and_values_before_operations(rt: HostRuntime) -> R
     ];
     tell(&rt, rt.alloc(), EFFECTS, &rows)
 }
+
+// The largest array, and the bounds of it.
+const LARGEST: &str = "int a[65536];
+int main(void) {
+  a[65535] = 7;
+  return a[65536];
+}
+";
+
+#[test]
+fn the_largest_array_has_all_its_elements(rt: HostRuntime) -> Result<(), Fail> {
+    let rows = [
+        (0, "begin", Told::Began(0, 0)),
+        (3, "write 65535 7 Int", Told::Done),
+        (4, "stop Bounds", Told::Last),
+    ];
+    tell(&rt, rt.alloc(), LARGEST, &rows)
+}

@@ -44,3 +44,25 @@ fn a_call_too_deep_stops(rt: HostRuntime) -> Result<(), Fail> {
     let text = "int f(int n) { return f(n); }\nint main(void) { return f(0); }";
     tell(&rt, rt.alloc(), text, &rows)
 }
+
+// What a thread is given, and a cast to `void *`, are `long`.
+const LONG_ARGUMENT: &str = "#include <stdatomic.h>
+atomic_long a;
+int f(void *p) {
+  a = (long) p;
+  a = (long) (void *) 4294967301;
+  return 0;
+}
+int main(void) { return 0; }
+";
+
+#[test]
+fn an_argument_is_a_long(rt: HostRuntime) -> Result<(), Fail> {
+    let rows = [
+        (0, "begin", Told::Began(0, 8589934595)),
+        (4, "store 0 SeqCst 8589934595 Long", Told::Done),
+        (5, "store 0 SeqCst 4294967301 Long", Told::Done),
+        (6, "end 0", Told::Last),
+    ];
+    tell(&rt, rt.alloc(), LONG_ARGUMENT, &rows)
+}

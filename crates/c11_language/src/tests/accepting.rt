@@ -621,3 +621,592 @@ fn a_program_of_as_many_bytes_as_a_text_may_have_is_accepted(rt: HostRuntime) ->
     assert_eq!(rt; checked.function_count(), 1);
     Ok(())
 }
+
+#[test]
+fn arrays_of_each_kind_are_told_from_variables(rt: HostRuntime) -> Result<(), Fail> {
+    let rows: [(&str, &str); 10] = [
+        ("kind", "int f(void) { int a[2]; return @a; }"),
+        ("kind", "mtx_t m[2]; int f(void) { return mtx_lock(&@m); }"),
+        (
+            "accepted",
+            "mtx_t m[2]; int f(void) { return mtx_lock(&m[1]); }",
+        ),
+        ("kind", "int f(void) { int a; return @a[0]; }"),
+        ("kind", "atomic_int a; int f(void) { return @a[0]; }"),
+        ("kind", "mtx_t m; int f(void) { return mtx_lock(&@m[0]); }"),
+        (
+            "kind",
+            "int f(void) { thrd_t t; return thrd_join(@t[0], 0); }",
+        ),
+        ("kind", "int f(void) { return @f[0]; }"),
+        ("kind", "mtx_t m[2]; int f(void) { return @m[0]; }"),
+        ("kind", "int f(void) { return @printf; }"),
+    ];
+    tell(&rt, rt.alloc(), rows.as_slice(), MAIN)
+}
+
+#[test]
+fn each_kind_of_thing_is_assigned_or_called_or_not(rt: HostRuntime) -> Result<(), Fail> {
+    let rows: [(&str, &str); 9] = [
+        ("kind", "int f(void) { thrd_t t; @t = 1; return 0; }"),
+        ("kind", "int f(void) { @atomic_load = 1; return 0; }"),
+        ("kind", "int f(void) { @NULL = 1; return 0; }"),
+        ("kind", "int f(void) { --@memory_order_relaxed; return 0; }"),
+        (
+            "accepted",
+            "atomic_int a; int x; int f(int l) { a = 1; x = 1; l = 1; ++a; x--; --l; return 0; }",
+        ),
+        ("kind", "#define N 1\nint f(void) { return @N(); }"),
+        ("kind", "int x; int f(void) { return @x(); }"),
+        ("kind", "mtx_t m; int f(void) { return @m(); }"),
+        ("kind", "int f(void) { return @memory_order_relaxed(); }"),
+    ];
+    tell(&rt, rt.alloc(), rows.as_slice(), MAIN)
+}
+
+#[test]
+fn the_object_behind_an_address_is_the_one_wanted(rt: HostRuntime) -> Result<(), Fail> {
+    let rows: [(&str, &str); 13] = [
+        (
+            "kind",
+            "atomic_int a; int x; int f(void) { return atomic_compare_exchange_strong(&a, &@x, 1); }",
+        ),
+        (
+            "kind",
+            "atomic_int a, b; int f(void) { return atomic_compare_exchange_weak(&a, &@b, 1); }",
+        ),
+        (
+            "kind",
+            "atomic_int a; int f(void) { thrd_t t; return atomic_compare_exchange_weak(&a, &@t, 1); }",
+        ),
+        (
+            "kind",
+            "int x; int f(void) { thrd_t t; return thrd_join(t, &@x); }",
+        ),
+        ("kind", "int f(int l) { return atomic_load(&@l); }"),
+        ("kind", "int x; int f(void) { return mtx_unlock(&@x); }"),
+        ("kind", "int f(void) { return atomic_load(&@f); }"),
+        (
+            "accepted",
+            "atomic_int a; int f(void) { int l[2]; thrd_t t; atomic_compare_exchange_strong(&a, &l[0], 1); return thrd_join(t, &l[1]); }",
+        ),
+        (
+            "kind",
+            "void g(void *p) {} int f(void) { thrd_t t; return thrd_create(&t, @g, 0); }",
+        ),
+        (
+            "kind",
+            "int g(void *p, void *q) { return 0; } int f(void) { thrd_t t; return thrd_create(&t, @g, 0); }",
+        ),
+        (
+            "kind",
+            "int g(int a, void *q) { return 0; } int f(void) { thrd_t t; return thrd_create(&t, @g, 0); }",
+        ),
+        (
+            "kind",
+            "int f(int x) { thrd_t t; return thrd_create(&t, @x, 0); }",
+        ),
+        (
+            "kind",
+            "int f(void) { thrd_t t; return thrd_create(&t, @atomic_load, 0); }",
+        ),
+    ];
+    tell(&rt, rt.alloc(), rows.as_slice(), MAIN)
+}
+
+#[test]
+fn arguments_have_the_forms_that_are_asked_for(rt: HostRuntime) -> Result<(), Fail> {
+    let rows: [(&str, &str); 16] = [
+        (
+            "kind",
+            "atomic_int a; int f(int l) { return atomic_compare_exchange_strong(&a, @l, 1); }",
+        ),
+        ("kind", "mtx_t m; int f(void) { return mtx_lock(@m); }"),
+        (
+            "kind",
+            "int g(void *p) { return 0; } int f(void) { thrd_t t; return thrd_create(@t, g, 0); }",
+        ),
+        (
+            "kind",
+            "mtx_t m; int f(void) { return mtx_init(&m, @NULL); }",
+        ),
+        (
+            "kind",
+            "mtx_t m; int f(void) { return mtx_init(&m, @(mtx_plain)); }",
+        ),
+        (
+            "kind",
+            "int f(void) { thrd_t t; return thrd_join(t, @mtx_plain); }",
+        ),
+        (
+            "kind",
+            "int f(void) { thrd_t t; return thrd_join(t, @(0)); }",
+        ),
+        (
+            "kind",
+            "int f(void) { thrd_t t; return thrd_join(t, @0l); }",
+        ),
+        ("kind", "int f(int x) { return thrd_join(@x, 0); }"),
+        (
+            "kind",
+            "int f(void) { thrd_t t; return thrd_join(@(t), 0); }",
+        ),
+        (
+            "arguments",
+            "int f(void) { thrd_t t; return @thrd_join(&t, 0); }",
+        ),
+        (
+            "arguments",
+            "int g(void *p) { return 0; } int f(void) { thrd_t t; return @thrd_create(&t, &g, 0); }",
+        ),
+        ("kind", "int f(void) { thrd_t t; return f() + @t; }"),
+        ("kind", "int f(int a) { thrd_t t; return f(@t); }"),
+        (
+            "kind",
+            "int g(void *p) { return 0; } int f(int a) { return f(@g); }",
+        ),
+        ("kind", "int f(int a) { return f(@memory_order_relaxed); }"),
+    ];
+    tell(&rt, rt.alloc(), rows.as_slice(), MAIN)
+}
+
+#[test]
+fn constants_stand_where_constants_may(rt: HostRuntime) -> Result<(), Fail> {
+    let rows: [(&str, &str); 11] = [
+        ("kind", "int a[@printf];"),
+        ("kind", "int f(void) { return 0; } int x = @f;"),
+        ("kind", "int a[2] = {1, @memory_order_relaxed};"),
+        ("unknown", "int a[2] = {1, @N};"),
+        ("unknown", "int f(void) { int a[@N]; return 0; }"),
+        ("unknown", "int f(void) { thrd_t t[@N]; return 0; }"),
+        ("unknown", "mtx_t m[@N];"),
+        (
+            "accepted",
+            "int x = ATOMIC_VAR_INIT(-1), y = mtx_plain, z = NULL;",
+        ),
+        ("kind", "int f(void) { while (1) ; @break; return 0; }"),
+        (
+            "kind",
+            "int f(void) { do ; while (0); @continue; return 0; }",
+        ),
+        ("kind", "int f(void) { for (;;) ; @break; return 0; }"),
+    ];
+    tell(&rt, rt.alloc(), rows.as_slice(), MAIN)
+}
+
+#[test]
+fn scopes_end_and_what_was_hidden_comes_back(rt: HostRuntime) -> Result<(), Fail> {
+    let rows: [(&str, &str); 11] = [
+        ("twice", "#define @NULL 0"),
+        ("twice", "#define N 1\nint f(int @N) { return 0; }"),
+        ("twice", "#define N 1\nint @N(void) { return 0; }"),
+        ("twice", "int f(int a) { { int b; } int @a; return 0; }"),
+        (
+            "twice",
+            "int f(int a) { for (int i = 0; ; ) break; int @a; return 0; }",
+        ),
+        (
+            "twice",
+            "int f(void) { for (int i = 0, @i = 0; ; ) break; return 0; }",
+        ),
+        ("twice", "int f(void) { int a, @a; return 0; }"),
+        ("twice", "mtx_t m, @m;"),
+        ("accepted", "int f(int f) { { int f; f = 1; } return f; }"),
+        (
+            "accepted",
+            "int x; int f(void) { thrd_t x; return thrd_join(x, 0); } int g(void) { return x; }",
+        ),
+        (
+            "accepted",
+            "atomic_int x; int f(void) { { int x; x *= 2; } return atomic_load(&x); }",
+        ),
+    ];
+    tell(&rt, rt.alloc(), rows.as_slice(), MAIN)
+}
+
+#[test]
+fn names_are_sought_in_each_part_of_a_program(rt: HostRuntime) -> Result<(), Fail> {
+    let rows: [(&str, &str); 31] = [
+        ("unknown", "int a[2]; int f(void) { return a[@y]; }"),
+        ("unknown", "int a[2]; int f(void) { a[@y] = 1; return 0; }"),
+        ("unknown", "int a[2]; int f(void) { a[@y]++; return 0; }"),
+        (
+            "unknown",
+            "atomic_int a[2]; int f(void) { return atomic_load(&a[@y]); }",
+        ),
+        ("unknown", "int f(void) { return 1 ? @y : 2; }"),
+        ("unknown", "int f(void) { return 1 ? 2 : @y; }"),
+        ("unknown", "int f(void) { return @y ? 1 : 2; }"),
+        ("unknown", "int f(void) { return 1 + 2 * @y; }"),
+        ("unknown", "int f(void) { return 1 - 2 - @y; }"),
+        ("unknown", "int f(void) { return -@y; }"),
+        ("unknown", "int f(void) { return (int) @y; }"),
+        ("unknown", "int f(void) { return (@y); }"),
+        ("unknown", "int f(void) { (void) @y; return 0; }"),
+        ("unknown", "int f(int x) { x = @y; return 0; }"),
+        ("unknown", "int f(void) { if (@y) ; return 0; }"),
+        (
+            "unknown",
+            "int f(void) { if (1) ; else if (@y) ; return 0; }",
+        ),
+        ("unknown", "int f(void) { if (1) ; else @y; return 0; }"),
+        (
+            "unknown",
+            "int f(void) { if (1) ; else if (0) @y; else ; return 0; }",
+        ),
+        ("unknown", "int f(void) { while (@y) ; return 0; }"),
+        ("unknown", "int f(void) { while (1) @y; return 0; }"),
+        ("unknown", "int f(void) { do @y; while (1); return 0; }"),
+        (
+            "unknown",
+            "int f(void) { do { int x; } while (@x); return 0; }",
+        ),
+        ("unknown", "int f(void) { for (@y; ; ) ; return 0; }"),
+        ("unknown", "int f(void) { for (; @y; ) ; return 0; }"),
+        ("unknown", "int f(void) { for (; ; @y) ; return 0; }"),
+        ("unknown", "int f(void) { for (; ; ) @y; return 0; }"),
+        ("unknown", "int f(void) { { @y; } return 0; }"),
+        ("unknown", "int f(void) { assert(@y); return 0; }"),
+        ("unknown", "int f(void) { return printf(\"%d\", @y); }"),
+        ("unknown", "int f(void) { int x = 1, z = @y; return 0; }"),
+        (
+            "unknown",
+            "int f(int p) { return p; } int g(void) { return @p; }",
+        ),
+    ];
+    tell(&rt, rt.alloc(), rows.as_slice(), MAIN)
+}
+
+#[test]
+fn each_call_has_its_arguments(rt: HostRuntime) -> Result<(), Fail> {
+    let rows: [(&str, &str); 21] = [
+        ("arguments", "int f(void) { return @printf(\"%lx\", 1); }"),
+        ("arguments", "int f(void) { return @printf(\"%lld\", 1); }"),
+        ("arguments", "int f(void) { return @printf(\"% d\", 1); }"),
+        ("arguments", "int f(void) { return @printf(\"%%\", 1); }"),
+        ("arguments", "int f(void) { return @printf(\"%d\", &f); }"),
+        ("arguments", "int f(int x) { return @printf(x, \"a\"); }"),
+        ("arguments", "int f(void) { @assert(); return 0; }"),
+        ("arguments", "int f(void) { @assert(1, 2); return 0; }"),
+        (
+            "arguments",
+            "atomic_int a; int f(void) { return @atomic_exchange(&a); }",
+        ),
+        (
+            "arguments",
+            "atomic_int a; int f(int l) { return @atomic_compare_exchange_weak(&a, &l); }",
+        ),
+        (
+            "arguments",
+            "atomic_int a; int f(int l) { return @atomic_compare_exchange_weak_explicit(&a, &l, 1, memory_order_seq_cst); }",
+        ),
+        (
+            "arguments",
+            "int f(void) { @atomic_thread_fence(); return 0; }",
+        ),
+        (
+            "arguments",
+            "mtx_t m; int f(void) { return @mtx_init(&m); }",
+        ),
+        (
+            "arguments",
+            "mtx_t m; int f(void) { return @mtx_trylock(&m, 0); }",
+        ),
+        (
+            "arguments",
+            "int f(void) { thrd_t t; return @thrd_join(t); }",
+        ),
+        (
+            "arguments",
+            "int g(void *p) { return 0; } int f(void) { thrd_t t; return @thrd_create(&t, g); }",
+        ),
+        ("arguments", "int f(void) { return @printf(\"%lx\"); }"),
+        ("arguments", "int f(void) { return @printf(\"%lld\"); }"),
+        ("arguments", "int f(void) { return @printf(\"%x\"); }"),
+        ("arguments", "int f(void) { return @printf(\"%5d\", 1); }"),
+        (
+            "accepted",
+            "int f(void) { return printf(\"a%%b%dc\\n\", 1); }",
+        ),
+    ];
+    tell(&rt, rt.alloc(), rows.as_slice(), MAIN)
+}
+
+#[test]
+fn each_call_of_the_library_has_the_value_that_it_has(rt: HostRuntime) -> Result<(), Fail> {
+    let rows: [(&str, &str); 7] = [
+        (
+            "accepted",
+            "atomic_int a; int f(int l) { atomic_store(&a, 1); atomic_store_explicit(&a, 1, memory_order_seq_cst); return atomic_load(&a) + atomic_load_explicit(&a, memory_order_relaxed) + atomic_exchange(&a, 1) + atomic_exchange_explicit(&a, 1, memory_order_acq_rel) + atomic_compare_exchange_strong(&a, &l, 1) + atomic_compare_exchange_weak(&a, &l, 1) + atomic_compare_exchange_strong_explicit(&a, &l, 1, memory_order_acq_rel, memory_order_acquire) + atomic_compare_exchange_weak_explicit(&a, &l, 1, memory_order_seq_cst, memory_order_seq_cst); }",
+        ),
+        (
+            "accepted",
+            "atomic_int a; int f(void) { return atomic_fetch_add(&a, 1) + atomic_fetch_sub(&a, 1) + atomic_fetch_and(&a, 1) + atomic_fetch_or(&a, 1) + atomic_fetch_xor(&a, 1) + atomic_fetch_add_explicit(&a, 1, memory_order_relaxed) + atomic_fetch_sub_explicit(&a, 1, memory_order_consume) + atomic_fetch_and_explicit(&a, 1, memory_order_acquire) + atomic_fetch_or_explicit(&a, 1, memory_order_release) + atomic_fetch_xor_explicit(&a, 1, memory_order_seq_cst); }",
+        ),
+        (
+            "accepted",
+            "mtx_t m; int g(void *p) { return 0; } int f(void) { thrd_t t; thrd_yield(); mtx_destroy(&m); assert(1); return mtx_init(&m, mtx_plain) + mtx_lock(&m) + mtx_trylock(&m) + mtx_unlock(&m) + thrd_create(&t, g, NULL) + thrd_join(t, NULL) + printf(\"\"); }",
+        ),
+        (
+            "type",
+            "atomic_int a; int f(void) { return @atomic_store_explicit(&a, 1, memory_order_relaxed); }",
+        ),
+        (
+            "type",
+            "int f(void) { return @atomic_thread_fence(memory_order_relaxed); }",
+        ),
+        ("type", "mtx_t m; int f(void) { return @mtx_destroy(&m); }"),
+        ("type", "int f(void) { return @assert(1); }"),
+    ];
+    tell(&rt, rt.alloc(), rows.as_slice(), MAIN)
+}
+
+#[test]
+fn orders_of_each_operation_are_those_that_are_allowed(rt: HostRuntime) -> Result<(), Fail> {
+    let rows: [(&str, &str); 7] = [
+        (
+            "order",
+            "atomic_int a; int f(int l) { return atomic_compare_exchange_strong_explicit(&a, &l, 1, memory_order_seq_cst, @0); }",
+        ),
+        (
+            "order",
+            "atomic_int a; int f(int l) { return atomic_compare_exchange_weak_explicit(&a, &l, 1, memory_order_acquire, @memory_order_seq_cst); }",
+        ),
+        (
+            "order",
+            "atomic_int a; int f(int l) { return atomic_compare_exchange_weak_explicit(&a, &l, 1, memory_order_seq_cst, @memory_order_acq_rel); }",
+        ),
+        (
+            "order",
+            "atomic_int a; int f(void) { atomic_store_explicit(&a, 1, @memory_order_consume); return 0; }",
+        ),
+        (
+            "order",
+            "atomic_int a; int f(void) { atomic_store_explicit(&a, 1, @memory_order_acq_rel); return 0; }",
+        ),
+        (
+            "order",
+            "atomic_int a; int f(void) { return atomic_fetch_add_explicit(&a, 1, @mtx_plain); }",
+        ),
+        (
+            "order",
+            "int f(void) { atomic_thread_fence(@0); return 0; }",
+        ),
+    ];
+    tell(&rt, rt.alloc(), rows.as_slice(), MAIN)
+}
+
+#[test]
+fn sizes_and_limits_at_their_edges(rt: HostRuntime) -> Result<(), Fail> {
+    let rows: [(&str, &str); 12] = [
+        ("size", "int f(void) { int @a[65537]; return 0; }"),
+        ("size", "atomic_int @a[65537];"),
+        ("accepted", "int a[1] = {1};"),
+        ("size", "#define N 65537\nint @a[N];"),
+        ("size", "int @a[NULL];"),
+        ("accepted", "atomic_int a[4096]; int b[65536]; mtx_t m[64];"),
+        ("toomany", "int a[65536], @b;"),
+        ("accepted", "int f(int p) { int a[255]; return 0; }"),
+        ("toomany", "int f(int p) { thrd_t @t[256]; return 0; }"),
+        (
+            "toomany",
+            "int f(void) { thrd_t t[200]; int @a[57]; return 0; }",
+        ),
+        (
+            "toomany",
+            "int f(void) { for (int i = 0; ; ) break; int @a[256]; return 0; }",
+        ),
+        (
+            "accepted",
+            "int x[300]; int f(void) { int a[256]; return 0; }",
+        ),
+    ];
+    tell(&rt, rt.alloc(), rows.as_slice(), MAIN)
+}
+
+#[test]
+fn a_value_is_wanted_in_each_part_of_a_program(rt: HostRuntime) -> Result<(), Fail> {
+    let rows: [(&str, &str); 27] = [
+        (
+            "type",
+            "void g(void) {} int f(int x) { x = @g(); return 0; }",
+        ),
+        ("type", "void g(void) {} int f(void) { return (int) @g(); }"),
+        (
+            "type",
+            "void g(void) {} int f(void) { return (void *) @g(); }",
+        ),
+        (
+            "type",
+            "void g(void) {} int f(void) { return @g() ? 1 : 2; }",
+        ),
+        (
+            "type",
+            "void g(void) {} int f(void) { return 1 ? 1 : @g(); }",
+        ),
+        ("type", "void g(void) {} int f(void) { return @g() + 1; }"),
+        ("type", "void g(void) {} int f(void) { return 1 + @g(); }"),
+        (
+            "type",
+            "void g(void) {} int f(void) { return 1 + 2 + @g(); }",
+        ),
+        ("type", "void g(void) {} int f(void) { return -@g(); }"),
+        (
+            "type",
+            "void g(void) {} int a[2]; int f(void) { return a[@g()]; }",
+        ),
+        (
+            "type",
+            "void g(void) {} int f(void) { while (@g()) ; return 0; }",
+        ),
+        (
+            "type",
+            "void g(void) {} int f(void) { do ; while (@g()); return 0; }",
+        ),
+        (
+            "type",
+            "void g(void) {} int f(void) { for (; @g(); ) ; return 0; }",
+        ),
+        (
+            "type",
+            "void g(void) {} int f(void) { if (1) ; else if (@g()) ; return 0; }",
+        ),
+        (
+            "type",
+            "void g(void) {} int f(void) { return printf(\"%d\", @g()); }",
+        ),
+        (
+            "type",
+            "void g(void) {} int f(void) { (void) (1 + @g()); return 0; }",
+        ),
+        (
+            "accepted",
+            "void g(void) {} int f(void) { (g()); (void) (void) 1; 1 ? g() : g(); return 0; }",
+        ),
+        ("type", "atomic_int a; int f(void) { @a /= 2; return 0; }"),
+        ("type", "atomic_int a; int f(void) { @a %= 2; return 0; }"),
+        ("type", "atomic_int a; int f(void) { @a >>= 2; return 0; }"),
+        (
+            "accepted",
+            "atomic_int a; int x; int f(int l) { a -= 1; a &= 1; a ^= 1; x /= 1; x %= 2; x <<= 1; x >>= 1; l *= 2; return 0; }",
+        ),
+        (
+            "type",
+            "atomic_int a; int f(unsigned l) { return atomic_compare_exchange_strong(&a, @&l, 1); }",
+        ),
+        (
+            "type",
+            "atomic_uint a; int f(int l) { return atomic_compare_exchange_weak(&a, @&l, 1); }",
+        ),
+        (
+            "type",
+            "atomic_ulong a; int f(void) { long l[2]; return atomic_compare_exchange_weak_explicit(&a, @&l[1], 1, memory_order_relaxed, memory_order_relaxed); }",
+        ),
+        (
+            "accepted",
+            "atomic_long a; int f(void *p) { return atomic_compare_exchange_strong(&a, &p, 1); }",
+        ),
+        ("type", "void f(int a) { if (a) return; @return a; }"),
+        ("type", "long f(void) { @return; }"),
+    ];
+    tell(&rt, rt.alloc(), rows.as_slice(), MAIN)
+}
+
+#[test]
+fn of_all_faults_the_first_is_told(rt: HostRuntime) -> Result<(), Fail> {
+    let rows: [(&str, &str); 13] = [
+        ("unknown", "int f(void) { return @g(\"a\"); }"),
+        ("kind", "int f(void) { int x; return @x(\"a\"); }"),
+        ("twice", "int x; int @x = {1};"),
+        ("twice", "int x; int @x[0];"),
+        ("twice", "mtx_t m[64]; mtx_t @m;"),
+        ("kind", "atomic_int @a[4097] = 1;"),
+        (
+            "kind",
+            "atomic_int a[2]; int f(void) { @a *= 2; return 0; }",
+        ),
+        ("arguments", "void g(void) {} int f(void) { return @g(1); }"),
+        (
+            "kind",
+            "int g(void *p) { return 0; } int f(void) { atomic_thread_fence(@g); return 0; }",
+        ),
+        (
+            "unknown",
+            "atomic_int a[2]; int f(long l) { return atomic_compare_exchange_strong(&a[@y], &l, 1); }",
+        ),
+        (
+            "unknown",
+            "atomic_int a[2]; int f(long l) { return atomic_compare_exchange_strong(&a[@y],\n&l, 1); }",
+        ),
+        (
+            "type",
+            "atomic_int a; int f(long l) { return atomic_compare_exchange_strong(&a,\n                                    @&l,\ny); }",
+        ),
+        (
+            "unknown",
+            "int f(void) { return 0; } int y = @z; int x = f;",
+        ),
+    ];
+    tell(&rt, rt.alloc(), rows.as_slice(), MAIN)
+}
+
+#[test]
+fn main_is_the_one_that_is_wanted(rt: HostRuntime) -> Result<(), Fail> {
+    let rows: [(&str, &str); 4] = [
+        ("nomain", "@unsigned main(void) { return 0; }"),
+        ("nomain", "@int Main(void) { return 0; }"),
+        ("nomain", "@int main;"),
+        ("twice", "void main(void) {} int @main(void) { return 0; }"),
+    ];
+    tell(&rt, rt.alloc(), rows.as_slice(), "")
+}
+
+// A `main`, and a function of so many parameters.
+fn with_params(alloc: Global, count: u32) -> Result<Vec<u8>, AllocError> {
+    let mut text = Vec::new(alloc);
+    text.extend_from_slice(b"int main(void){return 0;}int f(")?;
+    for number in 0..count {
+        if number > 0 {
+            text.push(b',')?;
+        }
+        text.extend_from_slice(b"int a")?;
+        let digits = number.to_string(alloc)?;
+        text.extend_from_slice(digits.as_bytes())?;
+    }
+    text.extend_from_slice(b"){return 0;}")?;
+    Ok(text)
+}
+
+#[test]
+fn a_function_may_have_so_many_parameters(rt: HostRuntime) -> Result<(), Fail> {
+    let alloc = rt.alloc();
+    let most = with_params(alloc, 256)?;
+    assert!(rt; accept(alloc, most.as_slice()).is_ok());
+    let more = with_params(alloc, 257)?;
+    let Err(AcceptStop::Refused(found)) = accept(alloc, more.as_slice()) else {
+        return Err(Fail::new("it is not refused"));
+    };
+    assert!(rt; found.word == RefusalWord::TooMany && found.place == Some((1, 2230)));
+    Ok(())
+}
+
+#[test]
+fn constants_of_the_library_have_their_values(rt: HostRuntime) -> Result<(), Fail> {
+    let text =
+        "long a[5] = {thrd_success, thrd_busy, thrd_error, mtx_plain, NULL};\nint b[thrd_error];\nint c = -thrd_error;\nunsigned d = 4294967295u, e = -1;\nint f = 4294967295u;\nint main(void) { return 0; }\n";
+    let Ok(checked) = accept(rt.alloc(), text.as_bytes()) else {
+        return Err(Fail::new("it is refused"));
+    };
+    assert_eq!(rt; checked.plain_count(), 11);
+    assert!(rt; is_cell(checked.plain(0), "a", Some(0), 0));
+    assert!(rt; is_cell(checked.plain(1), "a", Some(1), 1));
+    assert!(rt; is_cell(checked.plain(2), "a", Some(2), 2));
+    assert!(rt; is_cell(checked.plain(3), "a", Some(3), 0));
+    assert!(rt; is_cell(checked.plain(4), "a", Some(4), 0));
+    assert!(rt; is_cell(checked.plain(6), "b", Some(1), 0));
+    assert!(rt; is_cell(checked.plain(7), "c", None, -2));
+    assert!(rt; is_cell(checked.plain(8), "d", None, 4_294_967_295));
+    assert!(rt; is_cell(checked.plain(9), "e", None, 4_294_967_295));
+    assert!(rt; is_cell(checked.plain(10), "f", None, -1));
+    Ok(())
+}

@@ -1,4 +1,4 @@
-use c11_ast::{Expr, Function, Item, Program, Stmt};
+use c11_ast::{CastTo, Expr, Function, GlobalKind, Item, Prefix, Program, Start, Stmt};
 use c11_lexer::lex;
 use c11_num::{CType, CValue, Name};
 use c11_parser::{SyntaxFault, parse};
@@ -508,6 +508,307 @@ fn long_texts_are_answered(rt: HostRuntime) -> Result<(), Fail> {
         } else {
             assert!(rt; faults_at(rt.alloc(), text.as_str(), 1, 1), "{part}");
         }
+    }
+    Ok(())
+}
+
+// Operators with their levels: 1 binds tightest (C11 6.5.5 to 6.5.14).
+const OPERATORS: [(&str, u8); 18] = [
+    ("*", 1),
+    ("/", 1),
+    ("%", 1),
+    ("+", 2),
+    ("-", 2),
+    ("<<", 3),
+    (">>", 3),
+    ("<", 4),
+    (">", 4),
+    ("<=", 4),
+    (">=", 4),
+    ("==", 5),
+    ("!=", 5),
+    ("&", 6),
+    ("^", 7),
+    ("|", 8),
+    ("&&", 9),
+    ("||", 10),
+];
+
+/// Of `x ONE y OTHER z`: the links of its chain, and whether its first operand and its first right one are chains.
+fn grouping(program: &Program) -> Option<(usize, bool, bool)> {
+    match expr_at(only_function(program)?, 0)? {
+        Expr::Chain { first, rest } => Some((
+            rest.len(),
+            matches!(first.get(), Expr::Chain { .. }),
+            matches!(&rest.get(0)?.right, Expr::Chain { .. }),
+        )),
+        _ => None,
+    }
+}
+
+#[test]
+fn each_operator_binds_by_its_level(rt: HostRuntime) -> Result<(), Fail> {
+    for (one, level) in OPERATORS {
+        for (other, other_level) in OPERATORS {
+            let text = format!(in rt.alloc(); "void f(void) {{ x {one} y {other} z; }}")?;
+            let found = read(rt.alloc(), text.as_bytes())
+                .ok()
+                .and_then(|p| grouping(&p));
+            let wanted = if level == other_level {
+                (2, false, false)
+            } else if level < other_level {
+                (1, true, false)
+            } else {
+                (1, false, true)
+            };
+            assert_eq!(rt; found, Some(wanted), "{text}");
+        }
+    }
+    Ok(())
+}
+
+// The keyword list of C11 6.4.1, and the names that the language reserves besides.
+#[test]
+fn reserved_words_are_no_names(rt: HostRuntime) -> Result<(), Fail> {
+    let words: [&str; 51] = [
+        "auto",
+        "break",
+        "case",
+        "char",
+        "const",
+        "continue",
+        "default",
+        "do",
+        "double",
+        "else",
+        "enum",
+        "extern",
+        "float",
+        "for",
+        "goto",
+        "if",
+        "inline",
+        "int",
+        "long",
+        "register",
+        "restrict",
+        "return",
+        "short",
+        "signed",
+        "sizeof",
+        "static",
+        "struct",
+        "switch",
+        "typedef",
+        "union",
+        "unsigned",
+        "void",
+        "volatile",
+        "while",
+        "_Alignas",
+        "_Alignof",
+        "_Atomic",
+        "_Bool",
+        "_Complex",
+        "_Generic",
+        "_Imaginary",
+        "_Noreturn",
+        "_Static_assert",
+        "_Thread_local",
+        "atomic_int",
+        "atomic_uint",
+        "atomic_long",
+        "atomic_ulong",
+        "mtx_t",
+        "thrd_t",
+        "ATOMIC_VAR_INIT",
+    ];
+    for word in words {
+        let text = format!(in rt.alloc(); "int x = {word};")?;
+        assert!(rt; faults_at(rt.alloc(), text.as_str(), 1, 1), "{word}");
+        let text = format!(in rt.alloc(); "int x = {word}_;")?;
+        assert!(rt; is_program(rt.alloc(), text.as_str()), "{word}_");
+    }
+    Ok(())
+}
+
+/// The columns of what the first line declares: of the item, of its name, and of the constant that it starts with.
+fn columns(program: &Program) -> Option<(u32, u32, u32)> {
+    match program.items().get(0)? {
+        Item::Global { spot, vars, .. } => {
+            let var = vars.get(0)?;
+            match &var.start {
+                Start::One(constant) => {
+                    Some((
+                        spot.column,
+                        var.place.word.spot.column,
+                        constant.spot.column,
+                    ))
+                }
+                _ => None,
+            }
+        }
+        _ => None,
+    }
+}
+
+/// The columns of a function, of its name, and of its braces.
+fn function_columns(program: &Program) -> Option<(u32, u32, u32, u32)> {
+    let function = only_function(program)?;
+    Some((
+        function.spot.column,
+        function.word.spot.column,
+        function.body.spot.column,
+        function.body.close.column,
+    ))
+}
+
+/// The columns of a step and of its `++` or `--`.
+fn step_columns(program: &Program) -> Option<(u32, u32)> {
+    match expr_at(only_function(program)?, 0)? {
+        Expr::Step { spot, op_spot, .. } => Some((spot.column, op_spot.column)),
+        _ => None,
+    }
+}
+
+#[test]
+fn parts_have_the_place_of_their_first_token(rt: HostRuntime) -> Result<(), Fail> {
+    let globals: [(&str, (u32, u32, u32)); 4] = [
+        ("int x = 1;", (1, 5, 9)),
+        ("static int x = -1;", (1, 12, 16)),
+        ("atomic_int x = ATOMIC_VAR_INIT(-A);", (1, 12, 16)),
+        (" _Atomic(int) x = A;", (2, 15, 19)),
+    ];
+    for (text, wanted) in globals {
+        let found = read(rt.alloc(), text.as_bytes())
+            .ok()
+            .and_then(|p| columns(&p));
+        assert_eq!(rt; found, Some(wanted), "{text}");
+    }
+    let text = "static int f() { ; }";
+    let found = read(rt.alloc(), text.as_bytes())
+        .ok()
+        .and_then(|p| function_columns(&p));
+    assert_eq!(rt; found, Some((1, 12, 16, 20)));
+    let steps: [(&str, (u32, u32)); 2] = [
+        ("void f(void) { x[1] ++; }", (16, 21)),
+        ("void f(void) { -- x[1]; }", (16, 16)),
+    ];
+    for (text, wanted) in steps {
+        let found = read(rt.alloc(), text.as_bytes())
+            .ok()
+            .and_then(|p| step_columns(&p));
+        assert_eq!(rt; found, Some(wanted), "{text}");
+    }
+    Ok(())
+}
+
+// What no missing token explains: signs in sizes, and what stands where a name has to.
+#[test]
+fn further_texts_are_no_items(rt: HostRuntime) -> Result<(), Fail> {
+    let others: [&str; 6] = [
+        "int x[-1];",
+        "int x[] = {1};",
+        "int x = {};",
+        "int x = +1;",
+        "int x = ATOMIC_VAR_INIT(ATOMIC_VAR_INIT(1));",
+        "void x;",
+    ];
+    for text in others {
+        assert!(rt; faults_at(rt.alloc(), text, 1, 1), "{text}");
+    }
+    let blocks: [&str; 4] = ["thrd_t t = x;", "int a[-1];", "x = ;", "(int x;"];
+    for statements in blocks {
+        let text = in_function(rt.alloc(), statements)?;
+        assert!(rt; faults_at(rt.alloc(), text.as_str(), 1, 1), "{statements}");
+    }
+    Ok(())
+}
+
+/// The operator before the operand of a function's first expression.
+fn prefix(program: &Program) -> Option<Prefix> {
+    match expr_at(only_function(program)?, 0)? {
+        Expr::Prefix { op, .. } => Some(*op),
+        _ => None,
+    }
+}
+
+#[test]
+fn each_prefix_is_its_operator(rt: HostRuntime) -> Result<(), Fail> {
+    let rows: [(&str, Prefix); 4] = [
+        ("-x;", Prefix::Minus),
+        ("+x;", Prefix::Plus),
+        ("!x;", Prefix::Not),
+        ("~x;", Prefix::Flip),
+    ];
+    for (statements, wanted) in rows {
+        let text = in_function(rt.alloc(), statements)?;
+        let found = read(rt.alloc(), text.as_bytes())
+            .ok()
+            .and_then(|p| prefix(&p));
+        assert_eq!(rt; found, Some(wanted), "{statements}");
+    }
+    Ok(())
+}
+
+/// What the names of a first global declaration are.
+fn first_kind(program: &Program) -> Option<GlobalKind> {
+    match program.items().get(0)? {
+        Item::Global { kind, .. } => Some(*kind),
+        _ => None,
+    }
+}
+
+/// What the cast of a function's first expression leads to.
+fn cast_to(program: &Program) -> Option<CastTo> {
+    match expr_at(only_function(program)?, 0)? {
+        Expr::Cast { to, .. } => Some(*to),
+        _ => None,
+    }
+}
+
+#[test]
+fn each_type_is_the_one_that_it_names(rt: HostRuntime) -> Result<(), Fail> {
+    let rows: [(&str, GlobalKind); 15] = [
+        ("int", GlobalKind::Plain(CType::Int)),
+        ("unsigned", GlobalKind::Plain(CType::Unsigned)),
+        ("static unsigned int", GlobalKind::Plain(CType::Unsigned)),
+        ("long", GlobalKind::Plain(CType::Long)),
+        ("static long int", GlobalKind::Plain(CType::Long)),
+        ("unsigned long", GlobalKind::Plain(CType::ULong)),
+        ("unsigned long int", GlobalKind::Plain(CType::ULong)),
+        ("atomic_int", GlobalKind::Atomic(CType::Int)),
+        ("atomic_uint", GlobalKind::Atomic(CType::Unsigned)),
+        ("static atomic_long", GlobalKind::Atomic(CType::Long)),
+        ("atomic_ulong", GlobalKind::Atomic(CType::ULong)),
+        ("_Atomic unsigned", GlobalKind::Atomic(CType::Unsigned)),
+        (
+            "_Atomic unsigned long int",
+            GlobalKind::Atomic(CType::ULong),
+        ),
+        ("_Atomic(long int)", GlobalKind::Atomic(CType::Long)),
+        ("mtx_t", GlobalKind::Mutex),
+    ];
+    for (words, wanted) in rows {
+        let text = format!(in rt.alloc(); "{words} x;")?;
+        let found = read(rt.alloc(), text.as_bytes())
+            .ok()
+            .and_then(|p| first_kind(&p));
+        assert_eq!(rt; found, Some(wanted), "{words}");
+    }
+    let casts: [(&str, CastTo); 5] = [
+        ("int", CastTo::Number(CType::Int)),
+        ("unsigned int", CastTo::Number(CType::Unsigned)),
+        ("unsigned long int", CastTo::Number(CType::ULong)),
+        ("void", CastTo::Void),
+        ("void *", CastTo::VoidPointer),
+    ];
+    for (words, wanted) in casts {
+        let text = format!(in rt.alloc(); "void f(void) {{ ({words}) x; }}")?;
+        let found = read(rt.alloc(), text.as_bytes())
+            .ok()
+            .and_then(|p| cast_to(&p));
+        assert_eq!(rt; found, Some(wanted), "{words}");
     }
     Ok(())
 }

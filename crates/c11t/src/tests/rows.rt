@@ -70,6 +70,16 @@ const SPUN: &str = "c11t 1 run seed 0 steps 5
 verdict bound
 ";
 
+const ASSERTS: &str = "#include <assert.h>
+int main(void) { assert(0); }
+";
+
+const ASSERTED: &str = "c11t 1 run seed 0 steps 2000
+1 t0 l0 begin main 0
+2 t0 l2 stop assert
+verdict assert
+";
+
 const TURNS: &str = "int main(void) { while (1); }";
 
 const TURNED: &str = "c11t 1 run seed 0 steps 2000
@@ -202,6 +212,7 @@ fn executions_are_printed_to_the_byte(rt: HostRuntime) -> Result<(), Fail> {
         ("run", DEADLOCK, Status::Found, DEADLOCKED),
         ("run --steps 5", SPIN, Status::Bound, SPUN),
         ("run", TURNS, Status::Found, TURNED),
+        ("run", ASSERTS, Status::Found, ASSERTED),
         ("run", SUMS, Status::Found, SUMMED),
         ("run", UNLOCK, Status::Found, UNLOCKED),
         ("run --seed 48", RELAXED, Status::Found, RELAXED_RACE),

@@ -1,5 +1,5 @@
 use super::words_of;
-use crate::words::{Command, read_words};
+use crate::words::{Command, Status, read_words};
 use std::test::Fail;
 
 #[test]
@@ -52,4 +52,20 @@ fn reads_commands(rt: HostRuntime) -> Result<(), Fail> {
         assert_eq!(rt; read_words(words.as_slice()), None, "{line}");
     }
     Ok(())
+}
+
+#[test]
+fn each_status_has_its_number(rt: HostRuntime) {
+    for (status, number) in [
+        (Status::Done, 0),
+        (Status::Found, 1),
+        (Status::Bound, 2),
+        (Status::Refused, 3),
+        (Status::Usage, 4),
+        (Status::ReadFault, 5),
+        (Status::WriteFault, 6),
+        (Status::NoMemory, 7),
+    ] {
+        assert_eq!(rt; status.number(), number, "{status:?}");
+    }
 }
