@@ -1,7 +1,8 @@
 -- What the kept bindings say of names.
-use Rattle.std.proofs.Common.{◌≡◌, ℕ, zero, suc, ◌+◌, ◌<◌, ◌≤◌, Bool, true, false, List, [], ◌∷◌, length, drop, Option, Some, None, refl, sym, ap, ◌∙◌, subst, slice_get, get_or, unwrap_or, arith}
+use Rattle.std.proofs.Common.{◌≡◌, ℕ, zero, suc, ◌+◌, ◌<◌, ◌≤◌, Bool, true, false, List, [], ◌∷◌, length, drop, Option, Some, None, refl, sym, ap, ◌∙◌, subst, slice_get, get_or, arith}
 use Rattle.std.specs.Prelude.{is_some, nat_le, if◌then◌else◌}
 use Rattle.std.specs.Str.{bytes_eq}
+use Rattle.std.proofs.lemmas.Option.{same_Some}
 use Rattle.c11_check.specs.declared.entity.Entity.{Entity}
 use Rattle.c11_check.specs.declared.scopes.Binding.{Binding}
 use Rattle.c11_check.specs.Library.{or_else}
@@ -22,13 +23,10 @@ got_at [] j x is = absurd cc
 got_at (b ∷ bs) zero x is = got b (omega arith) (λ d. refl) cc
 got_at (b ∷ bs) (suc j) x is = got_more b bs j x (got_at bs j x is)
 
-pub some_place : (a b : ℕ) → Some a ≡ Some b → a ≡ b
-some_place a b e = ap (λ (o : Option ℕ). unwrap_or o 0) e
-
 same_place : (bs : List Binding) (name : List ℕ) (place : ℕ) → last_place 0 (names_of bs) name ≡ Some place → Found 0 (names_of bs) name
     → (x : Named) × Got bs place x × (last_named (names_of bs) name ≡ Some x.entity)
 same_place bs name place is (nowhere none entity) = absurd cc
-same_place bs name place is (there j x at element entity) = let e : 0 + j ≡ place = some_place (0 + j) place (sym at ∙ is) in
+same_place bs name place is (there j x at element entity) = let e : 0 + j ≡ place = same_Some (0 + j) place (sym at ∙ is) in
     (x, subst (λ (k : ℕ). Got bs k x) (omega arith) (got_at bs j x element), entity)
 
 got_within : (bs : List Binding) (j : ℕ) (x : Named) → Got bs j x → j < length bs
@@ -75,7 +73,7 @@ le_false : (a b : ℕ) → b < a → nat_le a b ≡ false
 le_false a b h = grind arith
 
 first_is : (n : ℕ) (same : Bool) (place : ℕ) → (if same then Some n else None) ≡ Some place → place ≡ n
-first_is n true place e = sym (some_place n place e)
+first_is n true place e = sym (same_Some n place e)
 first_is n false place e = absurd cc
 
 first_place : (n : ℕ) (x : Named) (xs : List Named) (name : List ℕ) (place : ℕ) → last_place n (x ∷ xs) name ≡ Some place → last_place (n + 1) xs name ≡ None → place ≡ n
@@ -91,7 +89,7 @@ here_at n start x xs name place is (there j y at element entity) more = let e : 
 
 here_all : (n : ℕ) (xs : List Named) (name : List ℕ) (place : ℕ) → last_place n xs name ≡ Some place → Found n xs name → nat_le (n + 0) place ≡ is_some (last_named xs name)
 here_all n xs name place is (nowhere none entity) = absurd cc
-here_all n xs name place is (there j y at element entity) = let e : n + j ≡ place = some_place (n + j) place (sym at ∙ is) in le_true (n + 0) place (omega arith) ∙ sym (ap is_some entity)
+here_all n xs name place is (there j y at element entity) = let e : n + j ≡ place = same_Some (n + j) place (sym at ∙ is) in le_true (n + 0) place (omega arith) ∙ sym (ap is_some entity)
 
 here_from : (n start : ℕ) (xs : List Named) (name : List ℕ) (place : ℕ) → last_place n xs name ≡ Some place → nat_le (n + start) place ≡ is_some (last_named (drop start xs) name)
 here_from n zero xs name place is = here_all n xs name place is (found n xs name)

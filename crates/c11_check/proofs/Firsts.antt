@@ -1,16 +1,11 @@
 -- The fault that is kept along all faults is the first of them.
-use Rattle.std.proofs.Common.{◌≡◌, ℕ, zero, suc, Bool, true, false, List, [], ◌∷◌, Option, Some, None, refl, sym, ap, ◌∙◌, subst, slice_get, unwrap_or, arith, true≢false, get_or, ◌⊎◌, inl, inr}
+use Rattle.std.proofs.Common.{◌≡◌, ℕ, zero, suc, Bool, true, false, List, [], ◌∷◌, Option, Some, None, refl, sym, ap, ◌∙◌, subst, slice_get, arith, true≢false, get_or, ◌⊎◌, inl, inr}
 use Rattle.std.specs.Prelude.{if◌then◌else◌, nat_lt, ◌==◌, ◌||◌, ◌&&◌}
+use Rattle.std.proofs.lemmas.Option.{same_Some, none-some}
 use Rattle.c11_check.specs.declared.fault.Fault.{Fault}
 use Rattle.c11_check.specs.declared.fault.Rule.{Rule}
 use Rattle.c11_check.specs.declared.fault.Rule.TheVariants as rule
 use Rattle.c11_check.specs.Programs.{keep, precedes, IsFirst, number_of}
-
-none_some : (f : Fault) → None ≡ Some f → ⊥
-none_some f is = cc
-
-some_is : (a b : Fault) → Some a ≡ Some b → a ≡ b
-some_is a b e = ap (λ (o : Option Fault). unwrap_or o a) e
 
 -- ---- the order of faults, one number at a time
 
@@ -64,7 +59,7 @@ skipping k x xs f (suc i) is = (suc (suc i), is)
 
 all_of : (x : Fault) (xs : List Fault) (f : Fault) → precedes x f ≡ false → ((i : ℕ) (other : Fault) → slice_get xs i ≡ Some other → precedes other f ≡ false)
     → (i : ℕ) (other : Fault) → slice_get (x ∷ xs) i ≡ Some other → precedes other f ≡ false
-all_of x xs f one rest zero other is = subst (λ (y : Fault). precedes y f ≡ false) (some_is x other is) one
+all_of x xs f one rest zero other is = subst (λ (y : Fault). precedes y f ≡ false) (same_Some x other is) one
 all_of x xs f one rest (suc i) other is = rest i other is
 
 kept_step : (k x : Fault) (xs : List Fault) (before : Bool) → precedes x k ≡ before
@@ -89,20 +84,20 @@ kept_step k x xs false is rest = let r = rest k in (
 )
 
 kept_first : (xs : List Fault) (k : Fault) → (f : Fault) × (keep (Some k) xs ≡ Some f) × Kept k xs f
-kept_first [] k = (k, refl, record { member = (zero, refl); kept = not_itself k; first = λ i other is. absurd (none_some other is) })
+kept_first [] k = (k, refl, record { member = (zero, refl); kept = not_itself k; first = λ i other is. absurd (none-some other is) })
 kept_first (x ∷ xs) k = kept_step k x xs (precedes x k) refl (kept_first xs)
 
 first_from : (x : Fault) (xs : List Fault) (f : Fault) → keep (Some x) xs ≡ Some f → (g : Fault) × (keep (Some x) xs ≡ Some g) × Kept x xs g → IsFirst (x ∷ xs) f
-first_from x xs f is r = let same : r.0 ≡ f = some_is r.0 f (sym r.1 ∙ is) in
+first_from x xs f is r = let same : r.0 ≡ f = same_Some r.0 f (sym r.1 ∙ is) in
     subst (λ (g : Fault). IsFirst (x ∷ xs) g) same (record { member = r.2.member; first = all_of x xs r.0 r.2.kept r.2.first })
 
 pub first_is : (xs : List Fault) (f : Fault) → keep None xs ≡ Some f → IsFirst xs f
-first_is [] f is = absurd (none_some f is)
+first_is [] f is = absurd (none-some f is)
 first_is (x ∷ xs) f is = first_from x xs f is (kept_first xs x)
 
 pub none_is : (xs : List Fault) → keep None xs ≡ None → xs ≡ []
 none_is [] is = refl
-none_is (x ∷ xs) is = absurd (none_some (kept_first xs x).0 (sym is ∙ (kept_first xs x).1))
+none_is (x ∷ xs) is = absurd (none-some (kept_first xs x).0 (sym is ∙ (kept_first xs x).1))
 
 -- ---- there is one first fault at most, and one where there are faults
 

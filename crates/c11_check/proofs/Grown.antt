@@ -1,8 +1,9 @@
 -- What statements declare: places alone, behind the names that are there.
-use Rattle.std.proofs.Common.{◌≡◌, ℕ, Bool, true, false, List, [], ◌∷◌, ◌++◌, map, length, take, Option, Some, None, refl, sym, ap, ◌∙◌, subst, append_assoc, unwrap_or}
+use Rattle.std.proofs.Common.{◌≡◌, ℕ, Bool, true, false, List, [], ◌∷◌, ◌++◌, map, length, take, Option, Some, None, refl, sym, ap, ◌∙◌, subst, append_assoc}
 use Rattle.std.specs.Prelude.{if◌then◌else◌}
 use Rattle.std.specs.Str.{bytes_eq}
 use Rattle.std.proofs.lemmas.List.{append-nil}
+use Rattle.std.proofs.lemmas.Option.{same_Some}
 use Rattle.std.proofs.Math.Seq.{take-append_seam}
 use Rattle.c11_num.specs.declared.value.CType.{CType}
 use Rattle.c11_ast.specs.declared.place.Place.{Place}
@@ -40,16 +41,13 @@ last_snoc [] n name = sym (or_none (if bytes_eq name n.name then Some n.entity e
 last_snoc (x ∷ xs) n name = let this : Option Entity = if bytes_eq name x.name then Some x.entity else None in
     ap (λ (o : Option Entity). or_else o this) (last_snoc xs n name) ∙ or_assoc (if bytes_eq name n.name then Some n.entity else None) (last_named xs name) this
 
-pub some_entity : (a b : Entity) → Some a ≡ Some b → a ≡ b
-some_entity a b is = ap (λ (o : Option Entity). unwrap_or o a) is
-
 -- what holds of all that names denote
 abbrev pub AllDenoted : (Entity → Type 0) → Scope → Type 0
 AllDenoted P scope = (name : List ℕ) (entity : Entity) → denoted scope name ≡ Some entity → P entity
 
 picked : (P : Entity → Type 0) (new entity : Entity) (here : Bool) (last library : Option Entity) → P new → (or_else last library ≡ Some entity → P entity)
     → or_else (or_else (if here then Some new else None) last) library ≡ Some entity → P entity
-picked P new entity true last library holds rest is = subst P (some_entity new entity is) holds
+picked P new entity true last library holds rest is = subst P (same_Some new entity is) holds
 picked P new entity false last library holds rest is = rest is
 
 pub all_declared : (P : Entity → Type 0) (scope : Scope) (new : List ℕ) (entity : Entity) (counts : Counts) → P entity → AllDenoted P scope → AllDenoted P (declared scope new entity counts)

@@ -3,7 +3,7 @@ use Rattle.std.proofs.Common.{◌≡◌, ℕ, zero, suc, ◌+◌, ◌<◌, ◌�
 use Rattle.std.specs.Prelude.{if◌then◌else◌, Result, Ok, Err, OnOk, OnErr, is_err, is_ok}
 use Rattle.std.specs.Str.{bytes_eq}
 use Rattle.std.proofs.lemmas.List.{map-append, length-map, take-append-le}
-use Rattle.std.proofs.lemmas.Option.{slice_get_within}
+use Rattle.std.proofs.lemmas.Option.{slice_get_within, none-some}
 use Rattle.std.proofs.lemmas.Slice.Eq.{bytes_eq-Decides}
 use Rattle.c11_check.specs.declared.scopes.Binding.{Binding}
 use Rattle.c11_check.specs.Scopes.{Named}
@@ -15,12 +15,9 @@ pub on_ok : {T E P : Type 0} (result : Result T E) → is_err result ≡ false �
 on_ok (Ok x) is p = p
 on_ok (Err e) is p = absurd (true≢false is)
 
-some_none : (place : ℕ) → Some place ≡ None → ⊥
-some_none place e = cc
-
 pub on_present : {T E P : Type 0} (result : Result T E) (entry : Option (Option ℕ)) (place : ℕ) → OnErr result (entry ≡ None) → flat entry ≡ Some place → OnOk result P → P
 on_present (Ok x) entry place absent there p = p
-on_present (Err e) entry place absent there p = absurd (some_none place (sym there ∙ ap flat absent))
+on_present (Err e) entry place absent there p = absurd (none-some place (sym (ap flat absent) ∙ there))
 
 abbrev pub Placed : List Binding → Table → Type 0
 Placed bs table = (name : List ℕ) → place_at name table ≡ last_place 0 (names_of bs) name

@@ -1,7 +1,8 @@
 -- Tables have as many entries as are counted, and keep the limits.
 use Rattle.std.proofs.Common.{◌≡◌, ℕ, zero, suc, ◌+◌, ◌<◌, ◌≤◌, Bool, true, false, List, [], ◌∷◌, ◌++◌, length, Option, Some, None, refl, sym, ap, ◌∙◌, length-append, arith}
 use Rattle.std.specs.Prelude.{if◌then◌else◌, nat_lt, ◌||◌, not}
-use Rattle.std.proofs.Common.{unwrap_or, ◌^◌}
+use Rattle.std.proofs.Common.{◌^◌}
+use Rattle.std.proofs.lemmas.Option.{same_Some, none-some}
 use Rattle.c11_num.specs.declared.value.CType.TheVariants.{Int}
 use Rattle.c11_ast.specs.declared.item.Start.TheVariants.{Absent}
 use Rattle.c11_check.specs.declared.fault.Fault.{Fault}
@@ -148,15 +149,12 @@ items_grow : (items : List Item) (d : Declared) → d.scope.counts.functions ≤
 items_grow [] d = omega arith
 items_grow (i ∷ items) d = let one = item_grows i d in let rest = items_grow items (declare_item i d) in omega (arith, one, rest)
 
-pub some_number : (a b : ℕ) → Some a ≡ Some b → a ≡ b
-some_number a b e = ap (λ (o : Option ℕ). unwrap_or o 0) e
-
 main_here : (f : Function) (items : List Item) (d : Declared) (m : ℕ) (here : Bool) → is_main_function f ≡ here → (declare_function f d).scope.counts.functions ≡ d.scope.counts.functions + 1
     → main_from d.scope.counts.functions (item.Function f ∷ items) ≡ Some m
     → (main_from (d.scope.counts.functions + 1) items ≡ Some m → m < (declare_items items (declare_function f d)).scope.counts.functions)
     → m < (declare_items items (declare_function f d)).scope.counts.functions
 main_here f items d m true is e some rest =
-    let same = some_number d.scope.counts.functions m (sym (ap (λ (b : Bool). if b then Some d.scope.counts.functions else main_from (d.scope.counts.functions + 1) items) is) ∙ some) in
+    let same = same_Some d.scope.counts.functions m (sym (ap (λ (b : Bool). if b then Some d.scope.counts.functions else main_from (d.scope.counts.functions + 1) items) is) ∙ some) in
     let more = items_grow items (declare_function f d) in omega (arith, same, more, e)
 main_here f items d m false is e some rest = rest (sym (ap (λ (b : Bool). if b then Some d.scope.counts.functions else main_from (d.scope.counts.functions + 1) items) is) ∙ some)
 
@@ -188,15 +186,12 @@ within_limits program m few is =
 
 -- ---- a program without a `main` has a fault
 
-none_number : (n : ℕ) → None ≡ Some n → ⊥
-none_number n e = cc
-
 some_fault : (xs : List Fault) → when true NoMain (record { line = 1; column = 1 }) ++ xs ≡ [] → ⊥
 some_fault xs e = cc
 
 none_here : (f : Function) (items : List Item) (n : ℕ) (here : Bool) → is_main_function f ≡ here → main_from n (item.Function f ∷ items) ≡ None
     → (main_from (n + 1) items ≡ None → has_main items ≡ false) → has_main (item.Function f ∷ items) ≡ false
-none_here f items n true is none rest = absurd (none_number n (sym none ∙ ap (λ (b : Bool). if b then Some n else main_from (n + 1) items) is))
+none_here f items n true is none rest = absurd (none-some n (sym none ∙ ap (λ (b : Bool). if b then Some n else main_from (n + 1) items) is))
 none_here f items n false is none rest = ap (λ (b : Bool). b || has_main items) is ∙ rest (sym (ap (λ (b : Bool). if b then Some n else main_from (n + 1) items) is) ∙ none)
 
 none_main : (n : ℕ) (items : List Item) → main_from n items ≡ None → has_main items ≡ false

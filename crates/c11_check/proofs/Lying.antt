@@ -3,6 +3,7 @@ use Rattle.std.proofs.Common.{◌≡◌, ℕ, zero, suc, ◌+◌, ◌<◌, ◌�
 use Rattle.std.specs.Prelude.{⊤, codes, slice_get, if◌then◌else◌, is_none, ◌&&◌, ◌||◌, ◌==◌, nat_lt, ◌^◌}
 use Rattle.std.specs.Str.{bytes_eq}
 use Rattle.std.proofs.lemmas.List.{append-nil}
+use Rattle.std.proofs.lemmas.Option.{same_Some}
 use Rattle.std.proofs.lemmas.Bool.Decides.{nat_tests}
 use Rattle.c11_num.specs.Ranges.{TypedNumber}
 use Rattle.c11_num.specs.Wrapping.{wrapped}
@@ -36,8 +37,8 @@ use Rattle.c11_check.specs.Statements.{walk_of_block, size_faults}
 use Rattle.c11_check.specs.Programs.{HasNoFault, is_main_function, limit_of, count_of, no_main, starts_of, starts_faults, var_faults, var_walk, vars_walk, params_walk, function_walk, item_walk, items_walk}
 use Rattle.c11_check.specs.Tables.{Tables, Declared, start_value, converted_or_zero, element_cells, object_cells, declare_var, declare_vars, declare_function, declare_item, declare_items, nothing_declared, tables_of, main_from, main_of}
 use Rattle.c11_check.specs.Lies.{signatures_in, HasCells, LiesIn, IsMainAt, FaultlessLiesWithin}
-use Rattle.c11_check.proofs.Limits.{Counted, object_count, counted_var, counted_vars, counted_item, vars_functions, next_count, some_number}
-use Rattle.c11_check.proofs.Grown.{AllDenoted, all_declared, Lies, lies_declared, lies_named, grew_on, grew_params, names_left, some_entity, stmt_declares, block_declares}
+use Rattle.c11_check.proofs.Limits.{Counted, object_count, counted_var, counted_vars, counted_item, vars_functions, next_count}
+use Rattle.c11_check.proofs.Grown.{AllDenoted, all_declared, Lies, lies_declared, lies_named, grew_on, grew_params, names_left, stmt_declares, block_declares}
 
 -- ---- lists of faults
 
@@ -378,7 +379,7 @@ both_true true b is = (refl, is)
 both_true false b is = absurd cc
 
 found_here : (first entity : Entity) (rest : Option Entity) (here : Bool) → is_word first ≡ true → (rest ≡ Some entity → is_word entity ≡ true) → (if here then Some first else rest) ≡ Some entity → is_word entity ≡ true
-found_here first entity rest true one other e = ap is_word (sym (some_entity first entity e)) ∙ one
+found_here first entity rest true one other e = ap is_word (sym (same_Some first entity e)) ∙ one
 found_here first entity rest false one other e = other e
 
 word_found : (table : Table) (name : List ℕ) (entity : Entity) → are_words table ≡ true → look_up table name ≡ Some entity → is_word entity ≡ true
@@ -455,7 +456,7 @@ main_later n f items m found = record { place = suc found.place; function = foun
 
 main_first : (n : ℕ) (f : Function) (items : List Item) (m : ℕ) (here : Bool) → is_main_function f ≡ here → (if here then Some n else main_from (n + 1) items) ≡ Some m → (main_from (n + 1) items ≡ Some m → MainFound (n + 1) items m)
     → MainFound n (item.Function f ∷ items) m
-main_first n f items m true is e rest = record { place = 0; function = f; at = let same = some_number n m e in omega (arith, same); there = refl; is = is }
+main_first n f items m true is e rest = record { place = 0; function = f; at = let same = same_Some n m e in omega (arith, same); there = refl; is = is }
 main_first n f items m false is e rest = main_later n f items m (rest e)
 
 main_found : (n : ℕ) (items : List Item) (m : ℕ) → main_from n items ≡ Some m → MainFound n items m

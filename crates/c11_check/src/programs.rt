@@ -1,6 +1,6 @@
 //! The faults of globals, functions and programs.
 
-ghost use Rattle.std.specs.Prelude.{◌≡◌, OnOk, length, IfOk, None};
+ghost use Rattle.std.specs.Prelude.{◌≡◌, OnOk, OnErr, length, IfOk, None};
 ghost use Rattle.c11_check.specs.Programs as spec;
 ghost use Rattle.c11_check.specs.Programs.{keep};
 ghost use Rattle.c11_check.specs.Scopes as scope;
@@ -42,14 +42,15 @@ pub(crate) fn count_of(kind: GlobalKind, counts: Counts) -> u32
     }
 }
 
-/// Declares an object of file scope.
+/// Declares an object of file scope. After an error the scopes are as before.
 pub(crate) fn declare_global<'a>(
     scopes: &mut Scopes<'a>,
     name: &'a [u8],
     kind: GlobalKind,
     size: Option<u64>,
 ) -> Result<(), NoMemory>
-    ensures { OnOk result (scopes.new ≡ scope.with_global scopes.old name.now kind size) }
+    ensures declared { OnOk result (scopes.new ≡ scope.with_global scopes.old name.now kind size) }
+    ensures unchanged { OnErr result (scopes.new ≡ scopes.old) }
 {
     let counts = scopes.counts();
     match kind {
@@ -74,13 +75,14 @@ pub(crate) fn declare_global<'a>(
     }
 }
 
-/// Declares the name of a `#define`.
+/// Declares the name of a `#define`. After an error the scopes are as before.
 pub(crate) fn declare_define<'a>(
     scopes: &mut Scopes<'a>,
     name: &'a [u8],
     value: CValue,
 ) -> Result<(), NoMemory>
-    ensures { OnOk result (scopes.new ≡ scope.with_define scopes.old name.now value) }
+    ensures declared { OnOk result (scopes.new ≡ scope.with_define scopes.old name.now value) }
+    ensures unchanged { OnErr result (scopes.new ≡ scopes.old) }
 {
     let counts = scopes.counts();
     scopes.declare(name, Entity::Defined(value), counts)
@@ -107,9 +109,10 @@ fn signature_of(function: &Function) -> Signature
     }
 }
 
-/// Declares a function, with the next number.
+/// Declares a function, with the next number. After an error the scopes are as before.
 pub fn declare_function<'a>(scopes: &mut Scopes<'a>, function: &'a Function) -> Result<(), NoMemory>
-    ensures { OnOk result (scopes.new ≡ scope.with_function scopes.old function.now) }
+    ensures declared { OnOk result (scopes.new ≡ scope.with_function scopes.old function.now) }
+    ensures unchanged { OnErr result (scopes.new ≡ scopes.old) }
 {
     let counts = scopes.counts();
     let functions = counted(FUNCTION_LIMIT, counts.functions, None);

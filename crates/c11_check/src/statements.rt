@@ -1,6 +1,6 @@
 //! The faults of statements, and of the declarations in a function.
 
-ghost use Rattle.std.specs.Prelude.{◌≡◌, OnOk, is_some, map};
+ghost use Rattle.std.specs.Prelude.{◌≡◌, OnOk, OnErr, is_some, map};
 ghost use Rattle.c11_check.specs.Programs.{keep};
 ghost use Rattle.c11_check.specs.Faults as faults;
 ghost use Rattle.c11_check.specs.Scopes as scope;
@@ -18,14 +18,15 @@ use crate::scopes::Scopes;
 use c11_ast::{Expr, Local, Place, Spot, Stmt, Word};
 use c11_num::{CType, NoMemory};
 
-/// Declares a local of an integer type, or a parameter.
+/// Declares a local of an integer type, or a parameter. After an error the scopes are as before.
 pub fn declare_local<'a>(
     scopes: &mut Scopes<'a>,
     word: &'a Word,
     ctype: CType,
     size: Option<u64>,
 ) -> Result<(), NoMemory>
-    ensures { OnOk result (scopes.new ≡ scope.with_local scopes.old word.now.name ctype size) }
+    ensures declared { OnOk result (scopes.new ≡ scope.with_local scopes.old word.now.name ctype size) }
+    ensures unchanged { OnErr result (scopes.new ≡ scopes.old) }
 {
     let counts = scopes.counts();
     let places = counted(PLACE_LIMIT, counts.places, size);
@@ -37,13 +38,14 @@ pub fn declare_local<'a>(
     scopes.declare(word.name.as_slice(), entity, Counts { places, ..counts })
 }
 
-/// Declares a handle.
+/// Declares a handle. After an error the scopes are as before.
 pub fn declare_handle<'a>(
     scopes: &mut Scopes<'a>,
     word: &'a Word,
     size: Option<u64>,
 ) -> Result<(), NoMemory>
-    ensures { OnOk result (scopes.new ≡ scope.with_handle scopes.old word.now.name size) }
+    ensures declared { OnOk result (scopes.new ≡ scope.with_handle scopes.old word.now.name size) }
+    ensures unchanged { OnErr result (scopes.new ≡ scopes.old) }
 {
     let counts = scopes.counts();
     let places = counted(PLACE_LIMIT, counts.places, size);
