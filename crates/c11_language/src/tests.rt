@@ -1,2 +1,0 @@
-mod accepting;
-mod parsing;
