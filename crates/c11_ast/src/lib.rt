@@ -9,8 +9,6 @@ mod expr;
 mod item;
 mod place;
 mod stmt;
-#[cfg(test)]
-mod tests;
 
 pub use build::{boxed_expr, boxed_stmt};
 pub use expr::{Arg, CastTo, Expr, Infix, Link, Prefix, Target};

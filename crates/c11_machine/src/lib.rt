@@ -28,8 +28,6 @@ mod quick;
 mod run;
 mod slots;
 mod step;
-#[cfg(test)]
-mod tests;
 mod thread;
 
 pub use c11_flat::Code;

@@ -8,8 +8,6 @@ mod line;
 mod object;
 mod refusal;
 mod spelling;
-#[cfg(test)]
-mod tests;
 mod text;
 
 pub use execution::{Head, execution_text};

@@ -1,5 +1,4 @@
 //! Command lines and texts with what they mean, and what the program answers to them.
-mod rows;
 mod top;
 mod words;
 
