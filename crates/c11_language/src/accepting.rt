@@ -65,7 +65,7 @@ pub fn accepts_length(alloc: Global, row: &str) -> Result<Option<String>, AllocE
     for _ in end.text.len()..bytes {
         whole.push(b'\n')?;
     }
-    let lines = whole.len() as u32;
+    let lines = u32::try_from(whole.len()).unwrap_or(u32::MAX);
     whole.extend_from_slice(end.text.as_slice())?;
     let place = match end.place {
         Some((line, column)) => Some((line.saturating_add(lines), column)),
