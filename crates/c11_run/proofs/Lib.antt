@@ -4,6 +4,7 @@ pub mod Ending
 pub mod Fitting
 pub mod LegalRuns
 pub mod Lists
+pub mod Living
 pub mod OneRuns
 pub mod Stepping
 pub mod Telling

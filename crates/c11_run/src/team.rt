@@ -35,7 +35,8 @@ impl Member {
     // The thread with this number, which wants to begin.
     fn open(alloc: Global, number: u32, checked: &Checked, code: &Code) -> Result<Member, NoMemory>
         requires { code.now ≡ whole_of checked.now.program }
-        ensures { IfOk result (λ member. IsWaiting checked.now.program member []) }
+        ensures waiting { IfOk result (λ member. IsWaiting checked.now.program member []) }
+        ensures number { IfOk result (λ member. member.thread.number ≡ number) }
     {
         let mut thread = Thread::start(alloc, number);
         asks_where_wanted();
@@ -86,6 +87,7 @@ impl Team {
         requires { code.now ≡ whole_of checked.now.program }
         ensures count { IfOk result (λ team. length team.members.items ≡ thread_limit) }
         ensures waiting { IfOk result (λ team. (u : ℕ) (member : Member) → slice_get team.members.items u ≡ Some member → IsWaiting checked.now.program member []) }
+        ensures numbered { IfOk result (λ team. (u : ℕ) (member : Member) → slice_get team.members.items u ≡ Some member → member.thread.number ≡ u) }
     {
         let mut members = Vec::with_capacity(alloc, THREADS as usize)?;
         for number in 0..THREADS {

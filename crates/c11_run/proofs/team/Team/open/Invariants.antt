@@ -7,4 +7,5 @@ abbrev pub invariant-loop-number : goal.invariant-loop-number
 invariant-loop-number l = record {
   count : length l.members.items ≡ l.number;
   waiting : (u : ℕ) (member : Member) → slice_get l.members.items u ≡ Some member → IsWaiting l.checked.program member [];
+  numbered : (u : ℕ) (member : Member) → slice_get l.members.items u ≡ Some member → member.thread.number ≡ u;
 }
