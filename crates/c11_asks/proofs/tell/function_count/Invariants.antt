@@ -1,6 +1,6 @@
 use Rattle.std.proofs.Common.{◌≡◌, ◌≤◌, ◌+◌, drop, length}
 use Rattle.c11_check.specs.Lies.{signatures_in}
-use Rattle.c11_asks.proofs.tests.tell.function_count.Given as goal
+use Rattle.c11_asks.proofs.tell.function_count.Given as goal
 
 abbrev pub invariant-loop-item : goal.invariant-loop-item
 invariant-loop-item l = record {

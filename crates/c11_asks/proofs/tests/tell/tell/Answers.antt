@@ -1,5 +1,0 @@
-use Rattle.c11_asks.proofs.Asks.{begins}
-use Rattle.c11_asks.proofs.tests.tell.tell.Goals as goal
-
-pub loop-row-init : goal.loop-row-init
-loop-row-init g c = begins c.in-Ok.checked.program c.start-thread.result c.start-thread.ensures.stands

@@ -1,5 +1,0 @@
-use Rattle.c11_asks.specs.Asking.{IsAsking}
-use Rattle.c11_asks.proofs.tests.tell.tell.Given as goal
-
-abbrev pub invariant-loop-row : goal.invariant-loop-row
-invariant-loop-row g l = IsAsking l.checked.program l.thread

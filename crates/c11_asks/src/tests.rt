@@ -1,9 +1,0 @@
-mod arithmetic;
-mod control;
-mod library;
-mod lowering;
-mod objects;
-mod pieces;
-mod tell;
-mod threads;
-mod worked;
