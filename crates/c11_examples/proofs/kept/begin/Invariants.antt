@@ -1,5 +1,5 @@
 use Rattle.c11_examples.specs.Both.{IsKept}
-use Rattle.c11_examples.proofs.tests.steps.begin.Given as goal
+use Rattle.c11_examples.proofs.kept.begin.Given as goal
 
 abbrev pub invariant-loop-cell : goal.invariant-loop-cell
 invariant-loop-cell l = IsKept l.reads l.events.items

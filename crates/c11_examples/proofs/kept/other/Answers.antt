@@ -1,7 +1,7 @@
 use Rattle.std.proofs.Common.{length, ◌+◌}
 use Rattle.c11_events.specs.Offered.{op_reading}
 use Rattle.c11_events.proofs.Others.{others_fit}
-use Rattle.c11_examples.proofs.tests.steps.other.Goals as goal
+use Rattle.c11_examples.proofs.kept.other.Goals as goal
 
 pub extend-requires-clause-lawful : goal.extend-requires-clause-lawful
 extend-requires-clause-lawful c =

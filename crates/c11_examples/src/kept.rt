@@ -5,16 +5,22 @@ ghost use Rattle.c11_events.specs.Chains.{ChainLawful};
 ghost use Rattle.c11_events.specs.Offered.{op_cell, op_reading, extended};
 ghost use Rattle.c11_examples.specs.Both.{IsKept, IsOfTwoCells};
 
-use super::{draw, drawn_order, drawn_value, int};
+use super::acts::int;
+use super::draws::{draw, drawn_order, drawn_read, drawn_value};
+use super::stop::Stop;
 use c11_events::{Event, Op};
 use c11_mayread::Reads;
-use c11_num::RmwKind;
 use c11_plain::{chain_offered, extended};
 use rand_core::utils::NextWord;
 use rand_pcg::Pcg32;
 use std::alloc::Global;
-use std::process::Abort;
-use std::test::Fail;
+
+const LISTS: u64 = 300;
+
+// More reads than so many are drawn, and more with a choice.
+const READS: u32 = 900;
+
+const CHOICES: u32 = 300;
 
 // How many reads were compared, and how many of them were offered two stores or more.
 #[derive(Drop)]
@@ -24,7 +30,7 @@ struct Compared {
 }
 
 // Two cells, four threads.
-fn open(alloc: Global) -> Result<Reads, Fail>
+fn open(alloc: Global) -> Result<Reads, Stop>
     ensures { IfOk result (λ reads. IsKept reads []) }
 {
     Ok(Reads::open(alloc, 2, 4, 64)?)
@@ -37,7 +43,7 @@ fn extend(
     thread: u32,
     op: &Op,
     from: u32,
-) -> Result<(), Fail>
+) -> Result<(), Stop>
     requires kept { IsKept reads.old events.old.items }
     requires thread { thread < 4 }
     requires cells { IsOfTwoCells (op_reading events.old.items op.now from) }
@@ -46,11 +52,11 @@ fn extend(
 {
     let count = events.len();
     if count >= 64 {
-        return Err(Fail::new("there is no room"));
+        return Err(Stop::found(*events.allocator(), "there is no room"));
     }
     let longer = extended(*events.allocator(), events.as_slice(), thread, op, from)?;
     let Some(event) = longer.get(count) else {
-        return Err(Fail::new("there is no event more"));
+        return Err(Stop::found(*events.allocator(), "there is no event more"));
     };
     reads.room(op)?;
     reads.commit(event);
@@ -59,7 +65,7 @@ fn extend(
 }
 
 // The thread's operation, which reads no atomic cell, is the next event of both.
-fn other(reads: &mut Reads, events: &mut Vec<Event>, thread: u32, op: &Op) -> Result<(), Fail>
+fn other(reads: &mut Reads, events: &mut Vec<Event>, thread: u32, op: &Op) -> Result<(), Stop>
     requires kept { IsKept reads.old events.old.items }
     requires thread { thread < 4 }
     requires loads { loaded_cell (op_reading events.old.items op.now 0) ≡ None }
@@ -69,9 +75,18 @@ fn other(reads: &mut Reads, events: &mut Vec<Event>, thread: u32, op: &Op) -> Re
     extend(reads, events, thread, op, 0)
 }
 
+// The operation is offered other stores than by the plain program.
+fn differ(alloc: Global, offers: &[u32], expected: &[u32], op: &Op, events: &[Event]) -> Stop {
+    match format!(in alloc;
+        "offered {offers:?}, by the plain program {expected:?}: {op:?} behind {events:?}"
+    ) {
+        Ok(words) => Stop::Found(words),
+        Err(_) => Stop::NoMemory,
+    }
+}
+
 // The thread's operation on the cell is offered the same stores by both, one at least, and reads one of them by a draw.
 fn read(
-    rt: &impl Abort,
     words: &mut Pcg32,
     reads: &mut Reads,
     events: &mut Vec<Event>,
@@ -79,7 +94,7 @@ fn read(
     cell: u32,
     op: &Op,
     compared: &mut Compared,
-) -> Result<(), Fail>
+) -> Result<(), Stop>
     requires kept { IsKept reads.old events.old.items }
     requires thread { thread < 4 }
     requires cell { cell < 2 }
@@ -88,11 +103,10 @@ fn read(
 {
     let offers = reads.offers(thread, op)?;
     let expected = chain_offered(*events.allocator(), events.as_slice(), thread, op)?;
-    assert_eq!(rt;
-        offers.as_slice(),
-        expected.as_slice(),
-        "t{thread} {op:?} behind {events:?}"
-    );
+    if offers.as_slice() != expected.as_slice() {
+        let (offers, expected) = (offers.as_slice(), expected.as_slice());
+        return Err(differ(*events.allocator(), offers, expected, op, events.as_slice()));
+    }
     compared.reads = compared.reads.saturating_add(1);
     if expected.len() > 1 {
         compared.choices = compared.choices.saturating_add(1);
@@ -100,43 +114,18 @@ fn read(
     let place = words.next_word() as usize % expected.len().max(1);
     match expected.get(place) {
         Some(from) => extend(reads, events, thread, op, *from),
-        None => Err(Fail::new("no store is offered")),
-    }
-}
-
-// A load, an addition or a compare-exchange of the cell.
-fn drawn_read(words: &mut Pcg32, cell: u32) -> Op
-    ensures { op_cell result ≡ Some cell }
-{
-    let order = drawn_order(words);
-    match draw(words, 4) {
-        0 | 1 => Op::AtomicLoad { cell, order },
-        2 => Op::Rmw {
-            cell,
-            order,
-            kind: RmwKind::Add,
-            operand: int(1),
-        },
-        _ => Op::CompareExchange {
-            cell,
-            success: order,
-            failure: drawn_order(words),
-            weak: false,
-            expected: int(drawn_value(words)),
-            desired: int(drawn_value(words)),
-        },
+        None => Err(Stop::found(*events.allocator(), "no store is offered")),
     }
 }
 
 // The next event, of one of so many threads.
 fn draw_step(
-    rt: &impl Abort,
     words: &mut Pcg32,
     reads: &mut Reads,
     events: &mut Vec<Event>,
     threads: u32,
     compared: &mut Compared,
-) -> Result<(), Fail>
+) -> Result<(), Stop>
     requires kept { IsKept reads.old events.old.items }
     requires some { 0 < threads }
     requires few { threads < 5 }
@@ -147,7 +136,7 @@ fn draw_step(
     match draw(words, 8) {
         0 | 1 | 2 | 3 => {
             let op = drawn_read(words, cell);
-            read(rt, words, reads, events, thread, cell, &op, compared)
+            read(words, reads, events, thread, cell, &op, compared)
         }
         4 | 5 | 6 => {
             let order = drawn_order(words);
@@ -167,7 +156,7 @@ fn draw_step(
 }
 
 // The events before the first step: the Inits of both cells, and then main and the threads that it creates.
-fn begin(reads: &mut Reads, events: &mut Vec<Event>, threads: u32) -> Result<(), Fail>
+fn begin(reads: &mut Reads, events: &mut Vec<Event>, threads: u32) -> Result<(), Stop>
     requires kept { IsKept reads.old events.old.items }
     requires few { threads < 5 }
     ensures { OnOk result (IsKept reads.new events.new.items) }
@@ -187,7 +176,7 @@ fn begin(reads: &mut Reads, events: &mut Vec<Event>, threads: u32) -> Result<(),
 }
 
 // A list of events by draws of this seed, of three or four threads.
-fn play(rt: &impl Abort, alloc: Global, seed: u64, compared: &mut Compared) -> Result<(), Fail> {
+fn play(alloc: Global, seed: u64, compared: &mut Compared) -> Result<(), Stop> {
     let mut words = Pcg32::new(seed, 1_442_695_040_888_963_407);
     let threads = 3 + draw(&mut words, 2);
     let steps = 8 + draw(&mut words, 7);
@@ -195,28 +184,27 @@ fn play(rt: &impl Abort, alloc: Global, seed: u64, compared: &mut Compared) -> R
     let mut events = Vec::new(alloc);
     begin(&mut reads, &mut events, threads)?;
     for _ in 0..steps {
-        draw_step(rt, &mut words, &mut reads, &mut events, threads, compared)?;
+        draw_step(&mut words, &mut reads, &mut events, threads, compared)?;
     }
     Ok(())
 }
 
-#[test]
-fn each_step_offers_what_the_plain_program_offers(rt: HostRuntime) -> Result<(), Fail> {
-    let alloc = rt.alloc();
+/// Random lists of events: each read is offered the same by what is kept step by step and by the plain program.
+pub fn each_step_offers_the_same(alloc: Global) -> Result<String, Stop> {
     let mut compared = Compared {
         reads: 0,
         choices: 0,
     };
     for seed in 0..LISTS {
-        play(&rt, alloc, seed, &mut compared)?;
+        play(alloc, seed, &mut compared)?;
     }
-    assert!(rt;
-        compared.reads > 3 * LISTS as u32 && compared.choices > LISTS as u32,
-        "{} reads, {} with a choice",
-        compared.reads,
-        compared.choices
-    );
-    Ok(())
+    let Compared { reads, choices } = compared;
+    if reads <= READS || choices <= CHOICES {
+        return Err(Stop::Found(format!(in alloc;
+            "{reads} reads, {choices} with a choice, in {LISTS} random lists"
+        )?));
+    }
+    Ok(format!(in alloc;
+        "each step offers what the plain program offers: {LISTS} random lists, over {READS} reads, over {CHOICES} with a choice"
+    )?)
 }
-
-const LISTS: u64 = 300;

@@ -1,5 +1,0 @@
-use Rattle.c11_examples.specs.Both.{IsKept}
-use Rattle.c11_examples.proofs.tests.steps.play.Given as goal
-
-abbrev pub invariant-loop : goal.invariant-loop
-invariant-loop g l = IsKept l.reads l.events.items
