@@ -1,4 +1,0 @@
-mod cells;
-mod player;
-mod runs;
-mod standing;
