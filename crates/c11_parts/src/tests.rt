@@ -1,5 +1,0 @@
-mod graph;
-mod reads;
-mod replies;
-mod seq_cst;
-mod shadow;
