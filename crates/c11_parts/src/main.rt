@@ -1,7 +1,7 @@
 //! The parts that a memory is made of, each by itself: the seq_cst tables, the graph of chains, what a read may take, plain accesses,
 //! and what threads and mutexes answer. Each line of the input is a row, which says what is done or what is to be found, and a blank
-//! line ends a play of them; a line that begins with `// ` is a comment. Each part of the rows is printed with their number, and of each play the first row that does not hold.
-//! Random plays that are compared with plain computations follow.
+//! line ends a play of them; a line that begins with `// ` is a comment. Each part of the rows is printed with their number, and of
+//! each play the first row that does not hold. Random plays that are compared with plain computations follow.
 #![tactic(auto)]
 
 mod closure;

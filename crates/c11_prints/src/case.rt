@@ -1,4 +1,5 @@
 use super::execute::execute;
+use c11_report::{Head, Mode};
 use c11_tables::Part;
 use std::alloc::{AllocError, Global};
 
@@ -42,7 +43,7 @@ impl Case {
     /// Takes a line, and answers what is found where a row that it ends, or that it is, does not hold.
     ///
     /// A line behind two spaces is one of a program's text. `run SEED STEPS` runs it, and each line behind `> ` is then one that is
-    /// printed. `ends FIRST LAST WORDS` runs it with each of these seeds: what is printed ends with the words, where a backtick stands
+    /// printed; `threads SEED STEPS` is the same under the head of the other command. `ends FIRST LAST WORDS` runs it with each of these seeds: what is printed ends with the words, where a backtick stands
     /// for a line's end.
     pub fn take(
         &mut self,
@@ -106,18 +107,30 @@ impl Case {
         let rest = parts.next().unwrap_or("");
         match (kind, first, second) {
             (Some("run"), Some(seed), Some(steps)) => {
-                let steps = u32::try_from(steps).unwrap_or(0);
-                let printed = execute(alloc, self.text.as_str(), seed, steps)?;
-                self.run = Some(Run {
-                    words: String::from_str(alloc, words)?,
-                    printed,
-                    wanted: String::new(alloc),
-                });
-                Ok(None)
+                self.print(alloc, words, head(Mode::Run, seed, steps))
+            }
+            (Some("threads"), Some(seed), Some(steps)) => {
+                self.print(alloc, words, head(Mode::Threads, seed, steps))
             }
             (Some("ends"), Some(first), Some(last)) => self.ends(alloc, first, last, rest),
             _ => Ok(Some(format!(in alloc; "no such row: {words}")?)),
         }
+    }
+
+    /// Prints the run of the text under this head, to be compared with the lines that follow.
+    fn print(
+        &mut self,
+        alloc: Global,
+        words: &str,
+        head: Head,
+    ) -> Result<Option<String>, AllocError> {
+        let printed = execute(alloc, self.text.as_str(), head)?;
+        self.run = Some(Run {
+            words: String::from_str(alloc, words)?,
+            printed,
+            wanted: String::new(alloc),
+        });
+        Ok(None)
     }
 
     /// What is found where the print of a run with one of these seeds does not end with the words.
@@ -133,13 +146,21 @@ impl Case {
             return Ok(Some(format!(in alloc; "no row: {words}")?));
         }
         for seed in first..=last {
-            let printed = execute(alloc, self.text.as_str(), seed, 2_000)?;
+            let printed = execute(alloc, self.text.as_str(), head(Mode::Run, seed, 2_000))?;
             if !printed.as_slice().ends_with(end.as_bytes()) {
                 let printed = String::from_utf8_lossy(alloc, printed.as_slice())?;
                 return Ok(Some(format!(in alloc; "seed {seed} prints {printed}")?));
             }
         }
         Ok(None)
+    }
+}
+
+fn head(mode: Mode, seed: u64, steps: u64) -> Head {
+    Head {
+        mode,
+        seed,
+        steps: u32::try_from(steps).unwrap_or(0),
     }
 }
 

@@ -89,6 +89,10 @@ fn texts_that_are_not_accepted_are_refused_for_the_first_that_applies(
     let long = padded_text(rt.alloc(), 65_537)?;
     for (text, printed) in [
         ("", "refused nomain 1 1\n"),
+        (
+            "#include <stdatomic.h>\nint main(void) {\n}\n\0",
+            "refused byte 4 1\n",
+        ),
         (long.as_str(), "refused long\n"),
     ] {
         let (status, taken) = answer(rt.alloc(), "run", text)?;
