@@ -1,19 +1,12 @@
 //! A tester of threaded C11 programs.
 #![tactic(auto)]
 
-mod command;
-#[cfg(test)]
-mod tests;
-mod top;
-mod words;
-
+use c11_commands::{Status, c11t};
 use c11_io::{OpenGate, StdSink, StdSource};
 use c11_num::NoMemory;
 use std::env;
 use std::io::ErrorKind;
 use std::process::ExitCode;
-use top::c11t;
-use words::Status;
 
 fn main(rt: HostRuntime) -> ExitCode {
     let Ok(words) = words_of(&rt) else {

@@ -1,0 +1,6 @@
+pub mod Words
+pub mod Statuses
+pub mod Usage
+pub mod Jobs
+pub mod Answers
+pub mod Programs
