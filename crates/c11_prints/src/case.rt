@@ -1,34 +1,27 @@
-use super::execute::execute;
-use c11_report::{Head, Mode};
+//! The texts of programs, and the rows over them.
+use super::answer::answer_to;
+use super::head::threads_text;
+use super::line::{Call, Line, read};
+use super::streams::Streams;
 use c11_tables::Part;
 use std::alloc::{AllocError, Global};
 
-/// The text of a program, and the run whose print is being compared.
+/// The text of a program, and the calls over it whose prints are being compared.
 #[derive(Drop)]
 pub struct Case {
     text: String,
-    // Whether a run of the text has been asked for, so that a further line of a text begins another.
+    // Whether there has been a row over the text, so that a further line of a text begins another.
     is_whole: bool,
-    run: Option<Run>,
-}
-
-/// A run's words, what it printed, and what is wanted so far.
-#[derive(Drop)]
-struct Run {
-    words: String,
-    printed: Vec<u8>,
+    streams: Streams,
+    prints: Vec<Print>,
     wanted: String,
 }
 
-impl Run {
-    /// What is found where more or other bytes are printed than are wanted.
-    fn settle(&self, alloc: Global) -> Result<Option<String>, AllocError> {
-        if self.printed.as_slice() == self.wanted.as_bytes() {
-            return Ok(None);
-        }
-        let printed = String::from_utf8_lossy(alloc, self.printed.as_slice())?;
-        Ok(Some(format!(in alloc; "{} prints {printed}", self.words)?))
-    }
+/// A row's words, and what was printed for them.
+#[derive(Drop)]
+struct Print {
+    row: String,
+    printed: Vec<u8>,
 }
 
 impl Case {
@@ -36,145 +29,142 @@ impl Case {
         Case {
             text: String::new(alloc),
             is_whole: false,
-            run: None,
+            streams: Streams::OPEN,
+            prints: Vec::new(alloc),
+            wanted: String::new(alloc),
         }
     }
 
     /// Takes a line, and answers what is found where a row that it ends, or that it is, does not hold.
     ///
-    /// A line behind two spaces is one of a program's text. `run SEED STEPS` runs it, and each line behind `> ` is then one that is
-    /// printed; `threads SEED STEPS` is the same under the head of the other command. `ends FIRST LAST WORDS` runs it with each of these seeds: what is printed ends with the words, where a backtick stands
-    /// for a line's end.
+    /// Calls on lines one below the other have one print, that of the lines behind them.
     pub fn take(
         &mut self,
         alloc: Global,
         part: &mut Option<Part>,
         line: &str,
-    ) -> Result<Option<String>, AllocError> {
-        if let Some(wanted) = line.strip_prefix("> ") {
-            return self.want(alloc, wanted);
+    ) -> Result<String, AllocError> {
+        let mut found = String::new(alloc);
+        let Some(said) = read(line) else {
+            writeln!(found, "no such line: {line}")?;
+            return Ok(found);
+        };
+        if self.is_settled_by(&said) {
+            self.settle(alloc, &mut found)?;
         }
-        let found = self.settle(alloc)?;
-        if let Some(words) = line.strip_prefix("  ") {
-            self.extend(alloc, words)?;
-        } else if !line.is_empty() && !line.starts_with("#") {
+        if said.is_row() {
+            self.is_whole = true;
             if let Some(part) = part {
                 let _ = part.next();
             }
-            if let Some(other) = self.begin(alloc, line)? {
-                return Ok(Some(other));
-            }
         }
+        self.take_said(alloc, said, line, &mut found)?;
         Ok(found)
     }
 
-    /// What is found in the run that ends here.
-    pub fn settle(&mut self, alloc: Global) -> Result<Option<String>, AllocError> {
-        match self.run.take() {
-            Some(run) => run.settle(alloc),
-            None => Ok(None),
+    /// Whether no line of the prints that are being compared can follow.
+    fn is_settled_by(&self, said: &Line<'_>) -> bool {
+        match said {
+            Line::Printed(_) | Line::Cut(_) => false,
+            Line::Space | Line::Text(_) => true,
+            _ => !self.wanted.is_empty(),
         }
     }
 
-    /// One more line that is printed.
-    fn want(&mut self, alloc: Global, line: &str) -> Result<Option<String>, AllocError> {
-        match &mut self.run {
-            Some(run) => {
-                run.wanted.push_str(line)?;
-                run.wanted.push('\n')?;
-                Ok(None)
+    /// Takes what a line says.
+    fn take_said(
+        &mut self,
+        alloc: Global,
+        said: Line<'_>,
+        line: &str,
+        found: &mut String,
+    ) -> Result<(), AllocError> {
+        match said {
+            Line::Space => {}
+            Line::Text(text) => self.extend(alloc, text)?,
+            Line::Length(bytes) => self.pad(alloc, bytes)?,
+            Line::Source(source) => self.streams.source = source,
+            Line::Sink(sink) => self.streams.sink = sink,
+            Line::Room(room) => self.streams.room = room,
+            Line::Call(call) => self.call(alloc, call, found)?,
+            Line::Runs(runs) => runs.run(alloc, self.text.as_str(), found)?,
+            Line::Threads(seed, steps) => {
+                let printed = threads_text(alloc, self.text.as_str(), seed, steps)?;
+                self.compare(alloc, line, printed)?;
             }
-            None => Ok(Some(format!(in alloc; "no run prints {line}")?)),
+            Line::Printed(text) => {
+                self.wanted.push_str(text)?;
+                self.wanted.push('\n')?;
+            }
+            Line::Cut(text) => self.wanted.push_str(text)?,
+        }
+        Ok(())
+    }
+
+    /// Begins a text, where there has been a row over the last one.
+    fn begin(&mut self, alloc: Global) {
+        if self.is_whole {
+            self.text = String::new(alloc);
+            self.is_whole = false;
         }
     }
 
     /// One more line of a text.
     fn extend(&mut self, alloc: Global, line: &str) -> Result<(), AllocError> {
-        if self.is_whole {
-            self.text = String::new(alloc);
-            self.is_whole = false;
-        }
+        self.begin(alloc);
         self.text.push_str(line)?;
         self.text.push('\n')
     }
 
-    /// Begins a row over the text.
-    fn begin(&mut self, alloc: Global, words: &str) -> Result<Option<String>, AllocError> {
-        self.is_whole = true;
-        let mut parts = words.splitn(4, ' ');
-        let kind = parts.next();
-        let (first, second) = (number(parts.next()), number(parts.next()));
-        let rest = parts.next().unwrap_or("");
-        match (kind, first, second) {
-            (Some("run"), Some(seed), Some(steps)) => {
-                self.print(alloc, words, head(Mode::Run, seed, steps))
-            }
-            (Some("threads"), Some(seed), Some(steps)) => {
-                self.print(alloc, words, head(Mode::Threads, seed, steps))
-            }
-            (Some("ends"), Some(first), Some(last)) => self.ends(alloc, first, last, rest),
-            _ => Ok(Some(format!(in alloc; "no such row: {words}")?)),
+    /// A text that is made so long by line feeds.
+    fn pad(&mut self, alloc: Global, bytes: usize) -> Result<(), AllocError> {
+        self.begin(alloc);
+        for _ in self.text.len()..bytes {
+            self.text.push('\n')?;
         }
+        Ok(())
     }
 
-    /// Prints the run of the text under this head, to be compared with the lines that follow.
-    fn print(
+    /// Calls the program over the text. The streams that were set are those of this call alone.
+    fn call(
         &mut self,
         alloc: Global,
-        words: &str,
-        head: Head,
-    ) -> Result<Option<String>, AllocError> {
-        let printed = execute(alloc, self.text.as_str(), head)?;
-        self.run = Some(Run {
-            words: String::from_str(alloc, words)?,
-            printed,
-            wanted: String::new(alloc),
-        });
-        Ok(None)
+        call: Call<'_>,
+        found: &mut String,
+    ) -> Result<(), AllocError> {
+        let answer = answer_to(alloc, call.words, self.text.as_str(), self.streams)?;
+        self.streams = Streams::OPEN;
+        if answer.status != call.status {
+            writeln!(found, "{} ends with status {}", call.words, answer.status)?;
+        }
+        if call.leaves && !answer.is_unread {
+            writeln!(found, "{} reads the source", call.words)?;
+        }
+        self.compare(alloc, call.words, answer.printed)
     }
 
-    /// What is found where the print of a run with one of these seeds does not end with the words.
-    fn ends(
-        &self,
-        alloc: Global,
-        first: u64,
-        last: u64,
-        words: &str,
-    ) -> Result<Option<String>, AllocError> {
-        let end = lines(alloc, words)?;
-        if end.is_empty() || first > last {
-            return Ok(Some(format!(in alloc; "no row: {words}")?));
+    /// One more print to be compared with the lines that follow.
+    fn compare(&mut self, alloc: Global, row: &str, printed: Vec<u8>) -> Result<(), AllocError> {
+        self.prints.push(Print {
+            row: String::from_str(alloc, row)?,
+            printed,
+        })?;
+        Ok(())
+    }
+
+    /// Finds the calls that end here and printed more or other bytes than are wanted, and lines that no call prints.
+    pub fn settle(&mut self, alloc: Global, found: &mut String) -> Result<(), AllocError> {
+        if self.prints.is_empty() && !self.wanted.is_empty() {
+            writeln!(found, "no call prints {}", self.wanted)?;
         }
-        for seed in first..=last {
-            let printed = execute(alloc, self.text.as_str(), head(Mode::Run, seed, 2_000))?;
-            if !printed.as_slice().ends_with(end.as_bytes()) {
-                let printed = String::from_utf8_lossy(alloc, printed.as_slice())?;
-                return Ok(Some(format!(in alloc; "seed {seed} prints {printed}")?));
+        for print in &self.prints {
+            if print.printed.as_slice() != self.wanted.as_bytes() {
+                let printed = String::from_utf8_lossy(alloc, print.printed.as_slice())?;
+                writeln!(found, "{} prints {printed}", print.row)?;
             }
         }
-        Ok(None)
+        self.prints = Vec::new(alloc);
+        self.wanted = String::new(alloc);
+        Ok(())
     }
-}
-
-fn head(mode: Mode, seed: u64, steps: u64) -> Head {
-    Head {
-        mode,
-        seed,
-        steps: u32::try_from(steps).unwrap_or(0),
-    }
-}
-
-/// The number of a word.
-fn number(word: Option<&str>) -> Option<u64> {
-    word?.parse::<u64>().ok()
-}
-
-/// The words with a line's end for each backtick, and one behind them.
-fn lines(alloc: Global, words: &str) -> Result<String, AllocError> {
-    let mut text = String::new(alloc);
-    for line in words.split('`') {
-        text.push_str(line)?;
-        text.push('\n')?;
-    }
-    Ok(text)
 }

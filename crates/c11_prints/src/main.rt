@@ -1,9 +1,13 @@
-//! Programs, and the executions that they have, to the byte. The input has parts with texts of programs, each followed by what is to be
-//! printed for it; each part is printed with the number of its rows, and each row that does not hold.
+//! Command lines and programs, and what is answered to them, to the byte. The input has parts with texts of programs, each followed by
+//! rows over it; each part is printed with the number of its rows, and each row that does not hold.
 #![tactic(auto)]
 
+mod answer;
 mod case;
-mod execute;
+mod head;
+mod line;
+mod runs;
+mod streams;
 
 use c11_tables::Part;
 use case::Case;
@@ -14,9 +18,8 @@ fn main(rt: HostRuntime) -> io::Result<()> {
     let mut case = Case::new(rt.alloc());
     for line in rt.lines(rt.alloc()) {
         let line = line?;
-        if let Some(found) = case.take(rt.alloc(), &mut part, line.as_str())? {
-            println!(rt; "{found}")?;
-        }
+        let found = case.take(rt.alloc(), &mut part, line.as_str())?;
+        print!(rt; "{found}")?;
         if let Some(begun) = Part::begun(rt.alloc(), line.as_str())? {
             if let Some(ended) = part {
                 println!(rt; "{ended}")?;
@@ -24,9 +27,9 @@ fn main(rt: HostRuntime) -> io::Result<()> {
             part = Some(begun);
         }
     }
-    if let Some(found) = case.settle(rt.alloc())? {
-        println!(rt; "{found}")?;
-    }
+    let mut found = String::new(rt.alloc());
+    case.settle(rt.alloc(), &mut found)?;
+    print!(rt; "{found}")?;
     if let Some(ended) = part {
         println!(rt; "{ended}")?;
     }
