@@ -8,7 +8,7 @@ use lib.ListN.{get_elem?}
 use Rattle.atomic_table.proofs.Lists.{at_set, at_snoc}
 use Rattle.atomic_table.specs.Table.{State, keeps, Allows, Splits, Joins}
 use Rattle.c11_claims.specs.declared.rule.View.{View}
-use Rattle.c11_claims.specs.Claims.{times, beyond, once_below, total, Each, IsSpent, OneCount, IsShared, seat_view, Gains, HoldsEachOnce}
+use Rattle.c11_claims.specs.Claims.{times, beyond, once_below, total, Each, IsSpent, OneCount, IsClaimed, view_of, Gains, HoldsEachOnce}
 use Rattle.c11_claims.proofs.Counts.{times-append, beyond-append, beyond_one, once_more, once_yes, once_all, once_few, reaches, span, span_none, span_le, span_once, span_beyond}
 use Rattle.c11_claims.proofs.Totals.{total_set, total_snoc, total_part, total_le, total_span, total_whole}
 
@@ -68,7 +68,7 @@ fits views c n k counts within empty once passed =
     omega (arith, all, held, total_span (λ x v. times x v.claimed) views c k, parts)
 
 -- the word is at most 64 above the count
-word_near : {S : Type 0} (s : State S View) (id : ℕ) (v : View) → IsShared s → get_elem? s.views id ≡ some v → 0 < v.shares → slice_index s.words 0 < v.count + 65
+word_near : {S : Type 0} (s : State S View) (id : ℕ) (v : View) → IsClaimed s → get_elem? s.views id ≡ some v → 0 < v.shares → slice_index s.words 0 < v.count + 65
 unfolding Within Empty
 word_near s id v h at share =
     let n = slice_index s.words 0 in
@@ -78,15 +78,15 @@ word_near s id v h at share =
     (λ (no : v.count + 65 ≤ n → ⊥). omega arith)
 
 -- a view holds each number below the word at most once, and no other
-held_once : {S : Type 0} (s : State S View) (id : ℕ) (v : View) → IsShared s → get_elem? s.views id ≡ some v → (x : ℕ) → times x v.claimed ≤ once_below x (slice_index s.words 0)
+held_once : {S : Type 0} (s : State S View) (id : ℕ) (v : View) → IsClaimed s → get_elem? s.views id ≡ some v → (x : ℕ) → times x v.claimed ≤ once_below x (slice_index s.words 0)
 held_once s id v h at x = omega (arith, total_part (λ u. times x u.claimed) s.views id v at, h.once x)
 
 pub gains : {S : Type 0} (slots id : ℕ) (v : View) (held : List (ℕ × S)) → 0 < v.shares → beyond v.count v.claimed ≡ 0 → v.count ≤ 1000000
-    → Allows (IsShared {S = S}) slots id (v, held) 0 (λ n. (n + 1) % 2 ^ 64) (Gains (v, held))
+    → Allows (IsClaimed {S = S}) slots id (v, held) 0 (λ n. (n + 1) % 2 ^ 64) (Gains (v, held))
 unfolding Counts Within Empty
 gains slots id v held share going small s h homes at range =
     let n = slice_index s.words 0 in
-    let w = seat_view v.count v.shares (v.claimed ++ n ∷ []) in
+    let w = view_of v.count v.shares (v.claimed ++ n ∷ []) in
     let near = word_near s id v h at share in
     let next : (n + 1) % 2 ^ 64 ≡ n + 1 = omega arith in
     let word : slice_index (set s.words 0 ((n + 1) % 2 ^ 64)) 0 ≡ n + 1 = the_word s.words _ h.words ∙ next in
@@ -112,11 +112,11 @@ gains slots id v held share going small s h homes at range =
     )
 
 pub splits : {S : Type 0} (id : ℕ) (v : View) → 2 ≤ v.shares → beyond v.count v.claimed < v.shares
-    → Splits (IsShared {S = S}) id v (seat_view v.count (v.shares - 1) v.claimed) (seat_view v.count 1 [])
+    → Splits (IsClaimed {S = S}) id v (view_of v.count (v.shares - 1) v.claimed) (view_of v.count 1 [])
 unfolding Counts Within Empty
 splits id v two room s h at =
-    let left = seat_view v.count (v.shares - 1) v.claimed in
-    let right = seat_view v.count 1 [] in
+    let left = view_of v.count (v.shares - 1) v.claimed in
+    let right = view_of v.count 1 [] in
     let views = set s.views id left in
     let counts = counts_of s.views id v at (omega arith) h.count in
     record {
@@ -129,11 +129,11 @@ splits id v two room s h at =
     }
 
 pub joins : {S : Type 0} (id : ℕ) (v : View) (other : ℕ) (w : View) → 0 < v.shares → 0 < w.shares
-    → Joins (IsShared {S = S}) id v other w (seat_view v.count (v.shares + w.shares) (v.claimed ++ w.claimed)) (seat_view 0 0 [])
+    → Joins (IsClaimed {S = S}) id v other w (view_of v.count (v.shares + w.shares) (v.claimed ++ w.claimed)) (view_of 0 0 [])
 unfolding Counts Within Empty
 joins id v other w share other_share s h at apart at_other =
-    let both = seat_view v.count (v.shares + w.shares) (v.claimed ++ w.claimed) in
-    let spent = seat_view 0 0 [] in
+    let both = view_of v.count (v.shares + w.shares) (v.claimed ++ w.claimed) in
+    let spent = view_of 0 0 [] in
     let views = set s.views id both in
     let before : get_elem? s.views other ≡ some w = ⊎_elim (λ e. absurd (apart e.0)) (λ e. e.1) (at_set s.views id other both w at_other) in
     let counts = counts_of s.views id v at share h.count in
@@ -149,7 +149,7 @@ joins id v other w share other_share s h at apart at_other =
     }
 
 -- the seat with all shares, which holds some number not below the count, holds each below it once
-pub settles : {S : Type 0} (s : State S View) (id : ℕ) (v : View) → IsShared s → get_elem? s.views id ≡ some v → v.shares ≡ 64 → 0 < beyond v.count v.claimed → HoldsEachOnce v.count v.claimed
+pub settles : {S : Type 0} (s : State S View) (id : ℕ) (v : View) → IsClaimed s → get_elem? s.views id ≡ some v → v.shares ≡ 64 → 0 < beyond v.count v.claimed → HoldsEachOnce v.count v.claimed
 settles s id v h at all ended x below =
     let n = slice_index s.words 0 in
     let passed = reaches v.claimed v.count n (once_all v.claimed n (held_once s id v h at)) ended in

@@ -1,4 +1,4 @@
--- Numbers that workers claim, each once: 0, 1, 2, ..
+-- The numbers 0, 1, 2, .., which workers claim, each once.
 use Rattle.std.specs.Prelude.{ℕ, ◌≡◌, ◌+◌, ◌<◌, ◌≤◌, List, [], ◌∷◌, ◌++◌, length, slice_index, All, if◌then◌else◌, nat_eq, nat_lt, nat_le}
 use mathlib.Core.Option.{some}
 use lib.ListN.{get_elem?}
@@ -6,7 +6,7 @@ use Rattle.atomic_table.specs.Table.{State, Me}
 use Rattle.atomic_table.specs.Seated.{TableId}
 use Rattle.c11_claims.specs.declared.rule.View.{View}
 
--- which counter it is, and the count of the numbers that are to be claimed
+-- which counter it is, and the count below which its numbers are to be claimed
 pub record Counter : Type 0 where
   pub table : TableId
   pub count : ℕ
@@ -14,14 +14,14 @@ pub record Counter : Type 0 where
 abbrev pub counter : TableId → ℕ → Counter
 counter table count = record { table = table; count = count }
 
--- a seat: whose it is, its shares, and the numbers that it claimed, in order
-pub record Seated : Type 0 where
+-- what a worker's seat shows: its counter, its shares, and the numbers that it claimed, in order
+pub record Hand : Type 0 where
   pub claims : Counter
   pub shares : ℕ
   pub claimed : List ℕ
 
-abbrev pub seated : Counter → ℕ → List ℕ → Seated
-seated claims shares claimed = record { claims = claims; shares = shares; claimed = claimed }
+abbrev pub hand : Counter → ℕ → List ℕ → Hand
+hand claims shares claimed = record { claims = claims; shares = shares; claimed = claimed }
 
 -- how often the number stands in the list
 abbrev pub times : ℕ → List ℕ → ℕ
@@ -58,8 +58,8 @@ IsSpent v = v.shares ≡ 0
 abbrev pub OneCount : List View → Type 0
 OneCount views = Each (λ v. Each (λ w. ¬ IsSpent v → ¬ IsSpent w → v.count ≡ w.count) views) views
 
--- The rule of the one word and the views.
-pub record IsShared {S : Type 0} (s : State S View) : Type 0 where
+-- The rule, over the words and the views of all seats.
+pub record IsClaimed {S : Type 0} (s : State S View) : Type 0 where
   -- there is one word
   pub words : s.words ≡ slice_index s.words 0 ∷ []
   -- all views that are not spent hold the same count
@@ -73,11 +73,11 @@ pub record IsShared {S : Type 0} (s : State S View) : Type 0 where
   -- a view without a share holds no number
   pub empty : Each (λ v. IsSpent v → v.claimed ≡ []) s.views
 
-abbrev pub seat_view : ℕ → ℕ → List ℕ → View
-seat_view count shares claimed = record { count = count; shares = shares; claimed = claimed }
+abbrev pub view_of : ℕ → ℕ → List ℕ → View
+view_of count shares claimed = record { count = count; shares = shares; claimed = claimed }
 
 -- The seat gains the number found, which is larger than all that it held, and no less than how many these are.
 pub record Gains {S : Type 0} (before : Me S View) (found : ℕ) (after : Me S View) : Type 0 where
-  pub gained : after ≡ (seat_view before.0.count before.0.shares (before.0.claimed ++ found ∷ []), before.1)
+  pub gained : after ≡ (view_of before.0.count before.0.shares (before.0.claimed ++ found ∷ []), before.1)
   pub larger : All (λ m. m < found) before.0.claimed
   pub fewer : length before.0.claimed ≤ found

@@ -1,4 +1,4 @@
-//! The rule of the word and the seats.
+//! The rule of the word and the seats, and the three kinds of step.
 
 use atomic_table::{Join, Play, Split, TableRule};
 use std::collections::LinkedList;
@@ -15,14 +15,15 @@ pub struct Numbers;
 
 impl TableRule<u8, View, u64> for Numbers {
     ghost use Rattle.std.specs.Prelude.{[]};
-    ghost use Rattle.c11_claims.specs.Claims.{IsShared, seat_view};
+    ghost use Rattle.c11_claims.specs.Claims.{IsClaimed, view_of};
 
-    ghost holds = { λ _ s. IsShared s };
+    ghost holds = { λ _ s. IsClaimed s };
 
-    ghost first = { λ count. seat_view count 64 [] };
+    ghost first = { λ count. view_of count 64 [] };
 }
 
-/// A seat gains the number found.
+/// An addition of 1: the seat gains the number found. A seat makes it that has a share, and no number that is not below the
+/// count.
 pub struct Next;
 
 impl Play<u8, View> for Next {
@@ -31,26 +32,26 @@ impl Play<u8, View> for Next {
     ghost then = { λ _ before found after. Gains before found after };
 }
 
-/// A new seat gets one share and no number.
+/// A new seat gets one share, the same count and no number.
 pub struct OneShare;
 
 impl Split<View> for OneShare {
     ghost use Rattle.std.specs.Prelude.{[], ◌-◌};
-    ghost use Rattle.c11_claims.specs.Claims.{seat_view};
+    ghost use Rattle.c11_claims.specs.Claims.{view_of};
 
-    ghost left = { λ v. seat_view v.count (v.shares - 1) v.claimed };
+    ghost left = { λ v. view_of v.count (v.shares - 1) v.claimed };
 
-    ghost right = { λ v. seat_view v.count 1 [] };
+    ghost right = { λ v. view_of v.count 1 [] };
 }
 
-/// A seat gains what another has, and the other keeps nothing.
+/// A seat gains the numbers and shares of another, which keeps none and is spent.
 pub struct Both;
 
 impl Join<View> for Both {
     ghost use Rattle.std.specs.Prelude.{[], ◌+◌, ◌++◌};
-    ghost use Rattle.c11_claims.specs.Claims.{seat_view};
+    ghost use Rattle.c11_claims.specs.Claims.{view_of};
 
-    ghost both = { λ v w. seat_view v.count (v.shares + w.shares) (v.claimed ++ w.claimed) };
+    ghost both = { λ v w. view_of v.count (v.shares + w.shares) (v.claimed ++ w.claimed) };
 
-    ghost spent = { seat_view 0 0 [] };
+    ghost spent = { view_of 0 0 [] };
 }
