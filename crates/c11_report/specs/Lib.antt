@@ -1,2 +1,4 @@
 pub mod Execution
+pub mod Outputs
 pub mod Refusals
+pub mod Summaries

@@ -74,7 +74,7 @@ fn hex_digit(digit: u8) -> u8
 }
 
 // Adds bytes in hexadecimal, and `-` for none.
-fn push_bytes(text: &mut Text, bytes: &[u8]) -> Result<(), NoMemory>
+pub(crate) fn push_bytes(text: &mut Text, bytes: &[u8]) -> Result<(), NoMemory>
     ensures { OnOk result (text.new ≡ text.old ++ hex_bytes bytes.now) }
 {
     if bytes.is_empty() {
