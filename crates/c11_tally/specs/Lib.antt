@@ -1,0 +1,4 @@
+pub mod Joined
+pub mod Laws
+pub mod Pairs
+pub mod Tallies
