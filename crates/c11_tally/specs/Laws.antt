@@ -1,11 +1,11 @@
 -- The laws of what a campaign keeps.
-use Rattle.std.specs.Prelude.{ℕ, ◌≡◌, ◌+◌, ◌<◌, List, ◌++◌, length, All}
+use Rattle.std.specs.Prelude.{ℕ, ◌≡◌, ◌+◌, List, ◌++◌, length}
 use Rattle.std.specs.List.Sorted.{IsPermutation}
 use Rattle.c11_report.specs.declared.tally.Tallies.{Tallies}
 use Rattle.c11_report.specs.Outputs.{AreInOrder}
 use Rattle.c11_report.specs.Summaries.{HaveLeasts}
 use Rattle.c11_tally.specs.Joined.{joined_tallies}
-use Rattle.c11_tally.specs.Tallies.{Ran, AreTalliesOf, AreOutputsOf, listed, runs, Kept, StandsFor}
+use Rattle.c11_tally.specs.Tallies.{Ran, AreTalliesOf, AreOutputsOf, AreSome, listed, runs, Kept, StandsFor}
 
 -- the tallies of two lists of runs, put together, are those of all the runs
 abbrev pub TalliesJoin : Type 0
@@ -14,7 +14,7 @@ TalliesJoin = (xs ys : List Ran) (a b : Tallies) → AreTalliesOf xs a → AreTa
 -- the list has each output as often as the two lists together
 pub record AreJoined (a b pairs : List (List ℕ × ℕ)) : Type 0 where
   pub ordered : AreInOrder pairs
-  pub some : All (λ (pair : List ℕ × ℕ). 0 < pair.1) pairs
+  pub some : AreSome pairs
   pub counts : (bytes : List ℕ) → listed pairs bytes ≡ listed a bytes + listed b bytes
 
 -- so are their outputs

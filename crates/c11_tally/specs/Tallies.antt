@@ -1,5 +1,6 @@
 -- What a campaign keeps of its runs: how many ended each way, the least seed of these, and how often each output was printed.
 use Rattle.std.specs.Prelude.{ℕ, ◌≡◌, ◌+◌, ◌<◌, ◌≤◌, Bool, true, false, List, [], ◌∷◌, Option, Some, None, All, Contains, take, flat_map, sum_by, count_by, if◌then◌else◌}
+use Rattle.std.specs.Map.{values_of}
 use Rattle.std.specs.Str.{bytes_eq}
 use Rattle.c11_events.specs.declared.entry.Entry.{Entry}
 use Rattle.c11_events.specs.declared.op.Op.{Op}
@@ -94,10 +95,14 @@ AreTalliesOf rans tallies = (word : Word) → IsTallyOf word rans (tally_at word
 abbrev pub listed : List (List ℕ × ℕ) → List ℕ → ℕ
 listed pairs bytes = sum_by (λ (pair : List ℕ × ℕ). if bytes_eq pair.0 bytes then pair.1 else 0) pairs
 
+-- each count is above 0
+abbrev pub AreSome : List (List ℕ × ℕ) → Type 0
+AreSome pairs = All (λ count. 0 < count) (values_of pairs)
+
 -- the outputs of the runs in the order of their bytes, each once, with how many runs printed it
 pub record AreOutputsOf (rans : List Ran) (pairs : List (List ℕ × ℕ)) : Type 0 where
   pub ordered : AreInOrder pairs
-  pub some : All (λ (pair : List ℕ × ℕ). 0 < pair.1) pairs
+  pub some : AreSome pairs
   pub counts : (bytes : List ℕ) → listed pairs bytes ≡ count_by (λ (ran : Ran). bytes_eq ran.output bytes) rans
 
 -- ---- both

@@ -37,8 +37,24 @@ fn push_cut(buffer: &mut Vec<u8>, more: &[u8]) -> Result<(), NoMemory>
     Ok(())
 }
 
+// Counts an output once more. It takes memory only for one that is not there.
+pub(crate) fn count_output(
+    alloc: Global,
+    outputs: &mut BTreeMap<Vec<u8>, u64>,
+    output: &[u8],
+) -> Result<(), NoMemory>
+    requires { listed (pairs_of outputs.old.entries) output.now + 1 < 2 ^ 64 }
+    ensures ok { OnOk result (Raises output.now 1 (pairs_of outputs.old.entries) (pairs_of outputs.new.entries)) }
+    ensures err { OnErr result (outputs.new.entries ≡ outputs.old.entries) }
+{
+    if raise(outputs, output, 1) {
+        return Ok(());
+    }
+    put(outputs, Vec::from_slice(alloc, output)?, 1)
+}
+
 // Adds to the count of an output that is there, and tells whether it is.
-pub(crate) fn raise(outputs: &mut BTreeMap<Vec<u8>, u64>, output: &[u8], by: u64) -> bool
+fn raise(outputs: &mut BTreeMap<Vec<u8>, u64>, output: &[u8], by: u64) -> bool
     requires { listed (pairs_of outputs.old.entries) output.now + by < 2 ^ 64 }
     ensures found { MatchBool result (Raises output.now by (pairs_of outputs.old.entries) (pairs_of outputs.new.entries)) (outputs.new.entries ≡ outputs.old.entries) }
     ensures absent { MatchBool result ⊤ (get_by (λ k. slice_cmp nat_cmp output.now k.items) outputs.new ≡ None) }
@@ -53,11 +69,7 @@ pub(crate) fn raise(outputs: &mut BTreeMap<Vec<u8>, u64>, output: &[u8], by: u64
 }
 
 // Adds an output that is not there.
-pub(crate) fn put(
-    outputs: &mut BTreeMap<Vec<u8>, u64>,
-    output: Vec<u8>,
-    count: u64,
-) -> Result<(), NoMemory>
+fn put(outputs: &mut BTreeMap<Vec<u8>, u64>, output: Vec<u8>, count: u64) -> Result<(), NoMemory>
     requires { get_by (λ k. slice_cmp nat_cmp output.items k.items) outputs.old ≡ None }
     ensures ok { OnOk result (Raises output.items count (pairs_of outputs.old.entries) (pairs_of outputs.new.entries)) }
     ensures err { OnErr result (outputs.new.entries ≡ outputs.old.entries) }
@@ -76,11 +88,25 @@ pub(crate) fn add_outputs(
     ensures most { AddsAtMost (pairs_of others.entries) (pairs_of outputs.old.entries) (pairs_of outputs.new.entries) }
 {
     for (output, count) in others {
-        if !raise(outputs, output.as_slice(), count) {
-            put(outputs, output, count)?;
-        }
+        add_output(outputs, output, count)?;
     }
     Ok(())
+}
+
+// Adds the count of an output.
+fn add_output(
+    outputs: &mut BTreeMap<Vec<u8>, u64>,
+    output: Vec<u8>,
+    count: u64,
+) -> Result<(), NoMemory>
+    requires { listed (pairs_of outputs.old.entries) output.items + count < 2 ^ 64 }
+    ensures ok { OnOk result (Raises output.items count (pairs_of outputs.old.entries) (pairs_of outputs.new.entries)) }
+    ensures err { OnErr result (outputs.new.entries ≡ outputs.old.entries) }
+{
+    if raise(outputs, output.as_slice(), count) {
+        return Ok(());
+    }
+    put(outputs, output, count)
 }
 
 // The list of the outputs.

@@ -4,7 +4,7 @@ ghost use Rattle.c11_tally.specs.Joined.{no_tallies};
 ghost use Rattle.c11_tally.specs.Tallies.{Ran, ran_of, StandsFor, kept_in, runs};
 
 use crate::joined::{joined_tallies, no_tallies, with_run};
-use crate::outputs::{add_outputs, output_list, put, raise, read_output};
+use crate::outputs::{add_outputs, count_output, output_list, read_output};
 use c11_events::{Entry, Verdict};
 use c11_num::NoMemory;
 use c11_report::{Summary, Tallies};
@@ -54,22 +54,14 @@ impl Tallied {
     /// Adds a run: its seed, its verdict and its history. It takes no memory for an output that it met before.
     ///
     /// The only error is that memory ran out; what is kept then is as before.
-    pub fn add(
-        &mut self,
-        seed: u64,
-        verdict: Verdict,
-        entries: &[Entry],
-    ) -> Result<(), NoMemory>
+    pub fn add(&mut self, seed: u64, verdict: Verdict, entries: &[Entry]) -> Result<(), NoMemory>
         requires { runs self.old.tallies + 1 < 2 ^ 64 }
         ensures stands { OnOk result ((rans : List Ran) → StandsFor self.old rans → StandsFor self.new (rans ++ ran_of seed verdict entries.now ∷ [])) }
         ensures runs { OnOk result (runs self.new.tallies ≡ runs self.old.tallies + 1) }
         ensures err { OnErr result (self.new ≡ self.old) }
     {
         read_output(&mut self.buffer, entries)?;
-        if !raise(&mut self.outputs, self.buffer.as_slice(), 1) {
-            let output = Vec::from_slice(self.alloc, self.buffer.as_slice())?;
-            put(&mut self.outputs, output, 1)?;
-        }
+        count_output(self.alloc, &mut self.outputs, self.buffer.as_slice())?;
         self.tallies = with_run(self.tallies, seed, verdict);
         Ok(())
     }

@@ -1,0 +1,5 @@
+pub mod Cutting
+pub mod Listing
+pub mod Printed
+pub mod Tallying
+pub mod Turning
