@@ -1,10 +1,9 @@
 -- The outputs of runs.
-use Rattle.std.proofs.Common.{◌≡◌, ℕ, ◌+◌, ◌<◌, ◌≤◌, Bool, true, false, cond, List, [], ◌∷◌, ◌++◌, length, sym, refl, ◌∙◌, arith}
+use Rattle.std.proofs.Common.{◌≡◌, ℕ, ◌≤◌, Bool, true, false, cond, List, [], ◌∷◌, ◌++◌, sym, refl, ◌∙◌, arith}
 use Rattle.std.specs.List.Sorted.{IsPermutation, IsStrictlySortedBy}
 use Rattle.std.specs.Str.{bytes_eq}
 use Rattle.std.proofs.lemmas.List.Sorted.{sum_by-IsPermutation}
 use Rattle.std.proofs.lemmas.List.Sums.{sum_by-append, sum_by_push}
-use Rattle.c11_report.specs.Outputs.{AreInOrder}
 use Rattle.c11_tally.proofs.Listing.{outputs_are_one}
 use Rattle.c11_tally.proofs.Tallying.{tallies_are_one, tallies_permutation}
 use Rattle.c11_tally.specs.Pairs.{Raises, Adds}

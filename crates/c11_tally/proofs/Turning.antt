@@ -1,16 +1,14 @@
 -- The turns of a loop over a map's outputs.
-use Rattle.std.proofs.Common.{◌≡◌, ℕ, ◌+◌, ◌<◌, ◌≤◌, Bool, cond, List, [], ◌∷◌, ◌++◌, Option, Some, None, Vec, map, sym, refl, ap, ◌∙◌, subst, append-nil, arith}
+use Rattle.std.proofs.Common.{◌≡◌, ℕ, ◌+◌, ◌<◌, List, [], ◌∷◌, ◌++◌, Some, Vec, map, sym, refl, ap, ◌∙◌, arith}
 use Rattle.std.specs.Iterator.{Yields}
-use Rattle.std.specs.List.{All}
 use Rattle.std.specs.Map.{values_of}
 use Rattle.std.specs.Map.Iter.{TakesFirst}
-use Rattle.std.specs.Str.{bytes_eq}
 use Rattle.std.proofs.lemmas.List.Elements.{All-pop}
 use Rattle.std.proofs.lemmas.List.Sums.{sum_by-append, sum_by-cons}
 use Rattle.std.proofs.lemmas.Map.Iter.{rest_so_far}
 use Rattle.c11_tally.proofs.Listing.{share, some_pairs, some_values, found_share}
 use Rattle.c11_tally.specs.Pairs.{pairs_of, Raises, Adds, AddsAtMost}
-use Rattle.c11_tally.specs.Tallies.{AreSome, listed}
+use Rattle.c11_tally.specs.Tallies.{listed}
 
 same_map : {A : Type 0} (xs : List A) → map (λ (x : A). x) xs ≡ xs
 same_map [] = refl

@@ -1,5 +1,5 @@
 -- What a campaign keeps of its runs: how many ended each way, the least seed of these, and how often each output was printed.
-use Rattle.std.specs.Prelude.{ℕ, ◌≡◌, ◌+◌, ◌<◌, ◌≤◌, Bool, true, false, List, [], ◌∷◌, Option, Some, None, All, Contains, take, flat_map, sum_by, count_by, if◌then◌else◌}
+use Rattle.std.specs.Prelude.{ℕ, ◌≡◌, ◌+◌, ◌<◌, ◌≤◌, Bool, true, false, List, [], Option, Some, None, All, Contains, take, flat_map, sum_by, count_by, if◌then◌else◌}
 use Rattle.std.specs.Map.{values_of}
 use Rattle.std.specs.Str.{bytes_eq}
 use Rattle.c11_events.specs.declared.entry.Entry.{Entry}

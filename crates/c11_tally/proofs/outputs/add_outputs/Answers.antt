@@ -1,4 +1,4 @@
-use Rattle.std.proofs.Common.{◌≡◌, ◌∙◌, ◌^◌, List, ℕ, ◌++◌, ◌∷◌, [], sym, ap, Vec, Global}
+use Rattle.std.proofs.Common.{◌∙◌, ◌^◌, List, ℕ, ◌++◌, ap, Vec, Global}
 use Rattle.c11_tally.specs.Pairs.{pairs_of}
 use Rattle.c11_tally.proofs.Turning.{yielded_and_left, turn_fits, turn_adds}
 use Rattle.c11_tally.proofs.outputs.add_outputs.Goals as goal

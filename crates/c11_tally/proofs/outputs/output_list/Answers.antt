@@ -1,4 +1,4 @@
-use Rattle.std.proofs.Common.{◌≡◌, ◌∙◌, List, ℕ, ◌++◌, [], sym, ap, subst, append-nil, Vec, Global}
+use Rattle.std.proofs.Common.{◌≡◌, ◌∙◌, List, ℕ, ◌++◌, sym, ap, subst, append-nil, Vec, Global}
 use Rattle.c11_report.specs.Outputs.{AreInOrder}
 use Rattle.c11_tally.specs.Pairs.{pairs_of}
 use Rattle.c11_tally.proofs.Listing.{pairs_in_order}

@@ -1,6 +1,6 @@
-use Rattle.std.proofs.Common.{◌≡◌, ◌+◌, [], ◌++◌, List, ℕ, length, get_or, take, sym, ap, ◌∙◌, arith, Vec, Global}
+use Rattle.std.proofs.Common.{◌≡◌, ℕ, length, get_or, take, sym, ap, ◌∙◌, arith, Vec, Global}
 use Rattle.c11_events.specs.declared.entry.Entry.{Entry}
-use Rattle.c11_tally.specs.Tallies.{cut, out_bytes, output_of}
+use Rattle.c11_tally.specs.Tallies.{out_bytes, output_of}
 use Rattle.c11_tally.proofs.Cutting.{cut_short, cut_more, cut_same, no_bytes}
 use Rattle.c11_tally.proofs.outputs.read_output.Goals as goal
 use Rattle.c11_tally.proofs.outputs.read_output.Goals.{in-Out+in_ok-push_cut, in_default}
