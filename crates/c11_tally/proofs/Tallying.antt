@@ -178,18 +178,6 @@ one_has_least : (seed : ℕ) (b : Bool) → HasLeast (one_tally seed b)
 one_has_least seed true = (λ e. absurd cc, λ e. absurd (omega arith))
 one_has_least seed false = (λ _. refl, λ _. refl)
 
-pub leasts_none : HaveLeasts no_tallies
-leasts_none = leasts_by no_tallies none
-  where
-    none : (word : Word) → HasLeast (tally_at word no_tallies)
-    none done = one_has_least 0 false
-    none bound = one_has_least 0 false
-    none race = one_has_least 0 false
-    none assert = one_has_least 0 false
-    none fault = one_has_least 0 false
-    none local = one_has_least 0 false
-    none deadlock = one_has_least 0 false
-
 pub leasts_more : (tallies : Tallies) (seed : ℕ) (v : Verdict) → HaveLeasts tallies → HaveLeasts (with_run tallies seed v)
 leasts_more tallies seed v h =
     leasts_by (with_run tallies seed v) (λ word. subst HasLeast (sym (with_run_at word v tallies seed))

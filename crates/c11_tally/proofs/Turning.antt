@@ -7,7 +7,7 @@ use Rattle.std.proofs.lemmas.List.Elements.{All-pop}
 use Rattle.std.proofs.lemmas.List.Sums.{sum_by-append, sum_by-cons}
 use Rattle.std.proofs.lemmas.Map.Iter.{rest_so_far}
 use Rattle.c11_tally.proofs.Listing.{share, some_pairs, some_values, found_share}
-use Rattle.c11_tally.specs.Pairs.{pairs_of, Raises, Adds, AddsAtMost}
+use Rattle.c11_tally.specs.Pairs.{pairs_of, Raises, Adds}
 use Rattle.c11_tally.specs.Tallies.{listed}
 
 same_map : {A : Type 0} (xs : List A) → map (λ (x : A). x) xs ≡ xs
@@ -34,12 +34,6 @@ turn_fits old now all yielded rest key count n is a lt =
     let first = sum_by-cons (share key.items) (key.items, count) (pairs_of rest) in let here = found_share key.items key.items count refl in
     omega (arith, a.counts key.items)
 
-pub adds_most : {Z : Type 0} (old now : List (List ℕ × ℕ)) (all yielded rest : List (Vec ℕ Z × ℕ)) → all ≡ yielded ++ rest → Adds (pairs_of yielded) old now → AddsAtMost (pairs_of all) old now
-adds_most old now all yielded rest is a bytes =
-    let parts : listed (pairs_of all) bytes ≡ listed (pairs_of yielded) bytes + listed (pairs_of rest) bytes
-    = ap (λ (es : List (Vec ℕ _ × ℕ)). listed (pairs_of es) bytes) is ∙ listed-append yielded rest bytes in
-    omega (arith, a.counts bytes)
-
 values-append : {Z : Type 0} (xs : List (Vec ℕ Z × ℕ)) (key : Vec ℕ Z) (count : ℕ) → values_of (xs ++ (key, count) ∷ []) ≡ values_of xs ++ count ∷ []
 values-append [] key count = refl
 values-append (x ∷ xs) key count = ap (λ (vs : List ℕ). x.1 ∷ vs) (values-append xs key count)
@@ -56,6 +50,3 @@ turn_adds old now new yielded key count a r = record {
       let last = listed-append yielded ((key, count) ∷ []) bytes in let one = sum_by-cons (share bytes) (key.items, count) [] in
       omega (arith, a.counts bytes, r.counts bytes);
 }
-
-pub adds_none : (old : List (List ℕ × ℕ)) → Adds [] old old
-adds_none old = record { ordered = λ h. h; some = λ _ h. h; counts = λ bytes. omega arith }
