@@ -1,1 +1,10 @@
 pub mod Packets
+pub mod Parts
+pub mod Gives
+pub mod Spelled
+pub mod Includes
+pub mod RingSorts
+pub mod RingParts
+pub mod RingTokens
+pub mod PartsLength
+pub mod RingLength

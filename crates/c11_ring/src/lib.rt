@@ -3,6 +3,7 @@
 //! `specs/Ring` has the text, to the byte.
 #![tactic(auto)]
 
+pub mod laws;
 mod ring;
 #[cfg(test)]
 mod tests;

@@ -1,4 +1,4 @@
-use Rattle.std.proofs.Common.{◌≡◌, arith}
+use Rattle.std.proofs.Common.{arith}
 use Rattle.c11_ring.specs.Ring.{taken_text}
 use Rattle.c11_ring.proofs.Packets.{joined}
 use Rattle.c11_ring.proofs.ring.push_consumer.Goals as goal
