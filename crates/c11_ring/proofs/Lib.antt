@@ -1,0 +1,9 @@
+pub mod RingSorts
+pub mod TreesSpelled
+pub mod TreesParts
+pub mod TreesStmts
+pub mod FaultlessScopes
+pub mod FaultlessLines
+pub mod FaultlessPackets
+pub mod FaultlessItems
+pub mod FaultlessRings

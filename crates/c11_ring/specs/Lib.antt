@@ -1,0 +1,2 @@
+pub mod RingSorts
+pub mod Trees

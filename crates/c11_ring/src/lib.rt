@@ -1,0 +1,4 @@
+//! Ring programs.
+#![tactic(auto)]
+
+pub mod laws;
