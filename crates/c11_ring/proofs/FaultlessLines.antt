@@ -15,7 +15,7 @@ use Rattle.c11_check.specs.Scopes.{Scope}
 use Rattle.c11_check.specs.Library.{library_entity}
 use Rattle.c11_ring.proofs.RingSorts as r
 use Rattle.c11_ring.proofs.TreesSpelled.{spelled, behind}
-use Rattle.c11_ring.proofs.TreesParts.{literal_unary, plain_target, indexed_target, read_unary, call_unary, climbed, whole_unary, whole_fourth, whole_fifth, third_second, chained, assigned_whole, address, text, value, one_arg, more_args}
+use Rattle.c11_ring.proofs.TreesParts.{literal_unary, indexed_target, read_unary, call_unary, climbed, whole_unary, whole_fourth, whole_fifth, third_second, chained, assigned_whole, text, value, number_whole, number_argument, name_argument, address_argument, one_arg, more_args}
 use Rattle.c11_ring.proofs.TreesStmts.{Stands, while_stands, expr_stands, handles_stand, return_stands}
 use Rattle.c11_ring.proofs.FaultlessScopes.{producer_scope, consumer_scope, main_scope, threads_scope, in_int}
 
@@ -47,8 +47,8 @@ module _ (room size plains : ℕ) where
       (whole_fourth (outer_parts room) (chained (outer_parts room) 3
       (third_second (outer_parts room) (chained (outer_parts room) 1 (climbed (outer_parts room) 1 (literal_unary (outer_parts room) counted)) (sees refl)
       (climbed (outer_parts room) 1 (call_unary (outer_parts room) named takes
-      (more_args (address (inner_parts room) takes (plain_target (inner_parts room) named)) takes
-      (one_arg (value (inner_parts room) (whole_unary (inner_parts room) (read_unary (inner_parts room) (plain_target (inner_parts room) named)))))) takes))))
+      (more_args (address_argument (inner_parts room) takes named) takes
+      (one_arg (name_argument (inner_parts room) named))) takes))))
       (sees refl) (climbed (outer_parts room) 3 (literal_unary (outer_parts room) counted))))
       takes takes refl
 
@@ -56,24 +56,20 @@ module _ (room size plains : ℕ) where
   pub write_stands : (number packet : ℕ) → LineStands room (producer_scope size plains) (r.write_line number packet)
   unfolding library_entity
   write_stands number packet more spots = expr_stands (suc (suc (suc room))) in_int (producer_scope size plains)
-      (assigned_whole (outer_parts room) (indexed_target (outer_parts room) named takes (whole_unary (inner_parts room) (literal_unary (inner_parts room) counted)) takes)
-      (sees refl) (whole_unary (inner_parts room) (literal_unary (inner_parts room) counted)))
+      (assigned_whole (outer_parts room) (indexed_target (outer_parts room) named takes (number_whole (inner_parts room) counted) takes)
+      (sees refl) (number_whole (inner_parts room) counted))
       takes refl
 
   -- atomic_store_explicit(&head, J, ORDER);
   pub publish_stands : (release : Bool) (packet : ℕ) → LineStands room (producer_scope size plains) (r.store_line (codes "head") release packet)
   unfolding library_entity
   publish_stands true packet more spots = expr_stands (suc (suc (suc room))) in_int (producer_scope size plains)
-      (whole_unary (outer_parts room) (call_unary (outer_parts room) named takes
-      (more_args (address (inner_parts room) takes (plain_target (inner_parts room) named)) takes
-      (more_args (value (inner_parts room) (whole_unary (inner_parts room) (literal_unary (inner_parts room) counted))) takes
-      (one_arg (value (inner_parts room) (whole_unary (inner_parts room) (read_unary (inner_parts room) (plain_target (inner_parts room) named))))))) takes))
+      (whole_unary (outer_parts room) (call_unary (outer_parts room) named takes (more_args (address_argument (inner_parts room) takes named) takes
+      (more_args (number_argument (inner_parts room) counted) takes (one_arg (name_argument (inner_parts room) named)))) takes))
       takes refl
   publish_stands false packet more spots = expr_stands (suc (suc (suc room))) in_int (producer_scope size plains)
-      (whole_unary (outer_parts room) (call_unary (outer_parts room) named takes
-      (more_args (address (inner_parts room) takes (plain_target (inner_parts room) named)) takes
-      (more_args (value (inner_parts room) (whole_unary (inner_parts room) (literal_unary (inner_parts room) counted))) takes
-      (one_arg (value (inner_parts room) (whole_unary (inner_parts room) (read_unary (inner_parts room) (plain_target (inner_parts room) named))))))) takes))
+      (whole_unary (outer_parts room) (call_unary (outer_parts room) named takes (more_args (address_argument (inner_parts room) takes named) takes
+      (more_args (number_argument (inner_parts room) counted) takes (one_arg (name_argument (inner_parts room) named)))) takes))
       takes refl
 
 -- ---- the consumer
@@ -85,8 +81,8 @@ module _ (room size plains : ℕ) where
   full_stands packet more spots = while_stands (suc (suc room)) in_int (consumer_scope size plains) takes takes
       (whole_fourth (outer_parts room) (chained (outer_parts room) 3
       (climbed (outer_parts room) 3 (call_unary (outer_parts room) named takes
-      (more_args (address (inner_parts room) takes (plain_target (inner_parts room) named)) takes
-      (one_arg (value (inner_parts room) (whole_unary (inner_parts room) (read_unary (inner_parts room) (plain_target (inner_parts room) named)))))) takes))
+      (more_args (address_argument (inner_parts room) takes named) takes
+      (one_arg (name_argument (inner_parts room) named))) takes))
       (sees refl) (climbed (outer_parts room) 3 (literal_unary (outer_parts room) counted))))
       takes takes refl
 
@@ -97,7 +93,7 @@ module _ (room size plains : ℕ) where
       (whole_unary (outer_parts room) (call_unary (outer_parts room) named takes
       (one_arg (value (inner_parts room) (whole_fifth (inner_parts room) (chained (inner_parts room) 4
       (climbed (inner_parts room) 4 (read_unary (inner_parts room)
-      (indexed_target (inner_parts room) named takes (whole_unary (index_parts room) (literal_unary (index_parts room) counted)) takes)))
+      (indexed_target (inner_parts room) named takes (number_whole (index_parts room) counted) takes)))
       (sees refl) (climbed (inner_parts room) 4 (literal_unary (inner_parts room) counted)))))) takes))
       takes refl
 
@@ -105,16 +101,12 @@ module _ (room size plains : ℕ) where
   pub free_stands : (release : Bool) (packet : ℕ) → LineStands room (consumer_scope size plains) (r.store_line (codes "tail") release packet)
   unfolding library_entity
   free_stands true packet more spots = expr_stands (suc (suc (suc room))) in_int (consumer_scope size plains)
-      (whole_unary (outer_parts room) (call_unary (outer_parts room) named takes
-      (more_args (address (inner_parts room) takes (plain_target (inner_parts room) named)) takes
-      (more_args (value (inner_parts room) (whole_unary (inner_parts room) (literal_unary (inner_parts room) counted))) takes
-      (one_arg (value (inner_parts room) (whole_unary (inner_parts room) (read_unary (inner_parts room) (plain_target (inner_parts room) named))))))) takes))
+      (whole_unary (outer_parts room) (call_unary (outer_parts room) named takes (more_args (address_argument (inner_parts room) takes named) takes
+      (more_args (number_argument (inner_parts room) counted) takes (one_arg (name_argument (inner_parts room) named)))) takes))
       takes refl
   free_stands false packet more spots = expr_stands (suc (suc (suc room))) in_int (consumer_scope size plains)
-      (whole_unary (outer_parts room) (call_unary (outer_parts room) named takes
-      (more_args (address (inner_parts room) takes (plain_target (inner_parts room) named)) takes
-      (more_args (value (inner_parts room) (whole_unary (inner_parts room) (literal_unary (inner_parts room) counted))) takes
-      (one_arg (value (inner_parts room) (whole_unary (inner_parts room) (read_unary (inner_parts room) (plain_target (inner_parts room) named))))))) takes))
+      (whole_unary (outer_parts room) (call_unary (outer_parts room) named takes (more_args (address_argument (inner_parts room) takes named) takes
+      (more_args (number_argument (inner_parts room) counted) takes (one_arg (name_argument (inner_parts room) named)))) takes))
       takes refl
 
 -- ---- main
@@ -132,9 +124,9 @@ module _ (room size plains : ℕ) where
   unfolding library_entity
   first_create_stands more spots = expr_stands (suc (suc (suc room))) in_int (threads_scope size plains)
       (whole_unary (outer_parts room) (call_unary (outer_parts room) named takes
-      (more_args (address (inner_parts room) takes (plain_target (inner_parts room) named)) takes
-      (more_args (value (inner_parts room) (whole_unary (inner_parts room) (read_unary (inner_parts room) (plain_target (inner_parts room) named)))) takes
-      (one_arg (value (inner_parts room) (whole_unary (inner_parts room) (read_unary (inner_parts room) (plain_target (inner_parts room) named))))))) takes))
+      (more_args (address_argument (inner_parts room) takes named) takes
+      (more_args (name_argument (inner_parts room) named) takes
+      (one_arg (name_argument (inner_parts room) named)))) takes))
       takes refl
 
   -- thrd_create(&c, consumer, NULL);
@@ -142,9 +134,9 @@ module _ (room size plains : ℕ) where
   unfolding library_entity
   second_create_stands more spots = expr_stands (suc (suc (suc room))) in_int (threads_scope size plains)
       (whole_unary (outer_parts room) (call_unary (outer_parts room) named takes
-      (more_args (address (inner_parts room) takes (plain_target (inner_parts room) named)) takes
-      (more_args (value (inner_parts room) (whole_unary (inner_parts room) (read_unary (inner_parts room) (plain_target (inner_parts room) named)))) takes
-      (one_arg (value (inner_parts room) (whole_unary (inner_parts room) (read_unary (inner_parts room) (plain_target (inner_parts room) named))))))) takes))
+      (more_args (address_argument (inner_parts room) takes named) takes
+      (more_args (name_argument (inner_parts room) named) takes
+      (one_arg (name_argument (inner_parts room) named)))) takes))
       takes refl
 
   -- thrd_join(p, NULL);
@@ -152,8 +144,8 @@ module _ (room size plains : ℕ) where
   unfolding library_entity
   first_join_stands more spots = expr_stands (suc (suc (suc room))) in_int (threads_scope size plains)
       (whole_unary (outer_parts room) (call_unary (outer_parts room) named takes
-      (more_args (value (inner_parts room) (whole_unary (inner_parts room) (read_unary (inner_parts room) (plain_target (inner_parts room) named)))) takes
-      (one_arg (value (inner_parts room) (whole_unary (inner_parts room) (read_unary (inner_parts room) (plain_target (inner_parts room) named)))))) takes))
+      (more_args (name_argument (inner_parts room) named) takes
+      (one_arg (name_argument (inner_parts room) named))) takes))
       takes refl
 
   -- thrd_join(c, NULL);
@@ -161,8 +153,8 @@ module _ (room size plains : ℕ) where
   unfolding library_entity
   second_join_stands more spots = expr_stands (suc (suc (suc room))) in_int (threads_scope size plains)
       (whole_unary (outer_parts room) (call_unary (outer_parts room) named takes
-      (more_args (value (inner_parts room) (whole_unary (inner_parts room) (read_unary (inner_parts room) (plain_target (inner_parts room) named)))) takes
-      (one_arg (value (inner_parts room) (whole_unary (inner_parts room) (read_unary (inner_parts room) (plain_target (inner_parts room) named)))))) takes))
+      (more_args (name_argument (inner_parts room) named) takes
+      (one_arg (name_argument (inner_parts room) named))) takes))
       takes refl
 
   -- printf("%d\n", ring[L]);
@@ -172,7 +164,7 @@ module _ (room size plains : ℕ) where
       (whole_unary (outer_parts room) (call_unary (outer_parts room) named takes
       (more_args (text (inner_parts room) quoted) takes
       (one_arg (value (inner_parts room) (whole_unary (inner_parts room) (read_unary (inner_parts room)
-      (indexed_target (inner_parts room) named takes (whole_unary (index_parts room) (literal_unary (index_parts room) counted)) takes)))))) takes))
+      (indexed_target (inner_parts room) named takes (number_whole (index_parts room) counted) takes)))))) takes))
       takes refl
 
 -- ---- the ends
@@ -182,4 +174,4 @@ abbrev pub return_line : List Sort
 return_line = sort.Mark m.Return ∷ r.counted 0 ∷ sort.Mark m.Semicolon ∷ []
 
 pub return_line_stands : (room : ℕ) (scope : Scope) → LineStands room scope return_line
-return_line_stands room scope more spots = return_stands (suc (suc (suc room))) c.Int false scope takes (whole_unary (outer_parts room) (literal_unary (outer_parts room) counted)) takes refl
+return_line_stands room scope more spots = return_stands (suc (suc (suc room))) c.Int false scope takes (number_whole (outer_parts room) counted) takes refl

@@ -189,6 +189,24 @@ module _ (d : Parts) where
   pub value : {ts rest : Tokens} {part : Part} → Shown (IsAssign d) ts rest part → ShownArg (IsArg d) ts rest part
   value it = record { arg = argument.Value it.expr; whole = g.IsArg.value it.whole; shown = arg_value it.expr ∙ it.shown }
 
+  -- ---- numbers and names
+
+  pub number_whole : {ts rest : Tokens} {value : TypedNumber} {spot : Spot} → Counted ts value spot rest
+      → Shown (IsAssign d) ts rest (expr_part (Expr-F.Literal spot value))
+  number_whole it = whole_unary (literal_unary it)
+
+  pub number_argument : {ts rest : Tokens} {value : TypedNumber} {spot : Spot} → Counted ts value spot rest
+      → ShownArg (IsArg d) ts rest (expr_part (Expr-F.Literal spot value))
+  number_argument it = value (number_whole it)
+
+  pub name_argument : {ts rest : Tokens} {word : Word} → Named ts word rest
+      → ShownArg (IsArg d) ts rest (expr_part (Expr-F.Read (target_part (record { word = word; index = None }))))
+  name_argument it = value (whole_unary (read_unary (plain_target it)))
+
+  pub address_argument : {ts a rest : Tokens} {p : Spot} {word : Word} → Takes m.Ampersand ts p a → Named a word rest
+      → ShownArg (IsArg d) ts rest (arg_part (Arg-F.Address p (target_part (record { word = word; index = None }))))
+  address_argument mark it = address mark (plain_target it)
+
 -- ---- arguments
 
 pub one_arg : {is : Tokens → Arg → Tokens → Type 0} {ts rest : Tokens} {part : Part} → ShownArg is ts rest part → ShownArgs is ts rest (part ∷ [])
