@@ -1,10 +1,19 @@
-pub mod Packets
-pub mod Parts
-pub mod Gives
-pub mod Spelled
-pub mod Includes
-pub mod RingSorts
-pub mod RingParts
-pub mod RingTokens
-pub mod PartsLength
-pub mod RingLength
+mod Packets
+mod Parts
+mod Gives
+mod Spelled
+mod Includes
+mod RingParts
+mod RingSorts
+mod RingTokens
+mod PartsLength
+mod RingLength
+mod TreesSpelled
+mod TreesParts
+mod TreesStmts
+mod FaultlessScopes
+mod FaultlessLines
+mod FaultlessPackets
+mod FaultlessItems
+mod FaultlessRings
+mod RingAccepted

@@ -3,8 +3,8 @@ use Rattle.std.proofs.Common.{◌≡◌, ◌≤◌, ◌<◌, ℕ, zero, suc, ◌
 use Rattle.std.proofs.lemmas.Fmt.{length-decimal-le}
 use Rattle.std.specs.Fmt.{decimal}
 use Rattle.c11_lexer.specs.Pieces.{Text}
-use Rattle.c11_ring.specs.Ring.{places, publishing, consuming, place_of, value_of, packets_from, head_text, sent_text, taken_text, producer_text, consumer_text, main_text}
-use Rattle.c11_ring.specs.Laws.{RingIsShort}
+use Rattle.c11_ring.specs.Ring.{places, publishing, consuming, place_of, value_of, packets_from, head_text, sent_text, taken_text, producer_text, consumer_text, main_text, ring_bytes}
+use Rattle.c11_accepts.specs.Texts.{longest}
 use Rattle.c11_ring.proofs.PartsLength.{most, parts_short}
 use Rattle.c11_ring.proofs.RingParts.{sent_parts, taken_parts}
 use Rattle.c11_ring.proofs.RingTokens.{places_small, place_small, value_small}
@@ -70,8 +70,8 @@ main_short number size =
 joined : (h p c m : Text) → length (((h ++ p) ++ c) ++ m) ≡ length h + length p + length c + length m
 joined h p c m = omega (arith, length-append ((h ++ p) ++ c) m, length-append (h ++ p) c, length-append h p)
 
-pub ring_is_short : RingIsShort
-ring_is_short number size some small =
+pub ring_short : (number size : ℕ) → 1 ≤ size → size ≤ 200 → length (ring_bytes number size) ≤ longest
+ring_short number size some small =
     omega (
       arith,
       joined (head_text number) (producer_text number size) (consumer_text number size) (main_text number size),
