@@ -1,7 +1,7 @@
 mod CommentEnds
 mod Quotes
 mod Marks
-mod Longest
+pub mod Longest
 mod Numbers
 mod Directives
 mod Scanning

@@ -1,0 +1,8 @@
+use Rattle.std.proofs.Common.{arith}
+use Rattle.c11_ring.specs.Ring.{sent_text}
+use Rattle.c11_ring.proofs.Packets.{joined}
+use Rattle.c11_ring.proofs.ring.push_producer.Goals as goal
+
+pub returns : goal.returns
+returns c = joined (sent_text c.args.number) _ _ _ _ _ _ c.loop-packet.packet c.args.size c.in_ok-extend_from_slice.ensures.items c.loop-packet.invariant
+    c.in_ok-extend_from_slice-2.ensures.items (omega arith)
