@@ -1,0 +1,10 @@
+-- The laws of summaries.
+use Rattle.std.specs.Prelude.{ℕ, ◌≡◌}
+use Rattle.c11_machine.specs.Runs.{Program}
+use Rattle.c11_report.specs.declared.summary.Summary.{Summary}
+use Rattle.c11_campaign.specs.Summaries.{IsSummary}
+
+-- A program has one summary at most of the same seeds with the same bound.
+abbrev pub OneSummary : Type 0
+OneSummary = (program : Program) (first count bound : ℕ) (one other : Summary) → IsSummary program first count bound one
+    → IsSummary program first count bound other → one ≡ other
