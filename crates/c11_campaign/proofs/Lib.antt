@@ -4,3 +4,4 @@ pub mod Tallying
 pub mod Summing
 pub mod OneSummary
 pub mod Together
+pub mod Crossing

@@ -1,5 +1,6 @@
 -- From what all workers tallied to the summary.
-use Rattle.std.proofs.Common.{◌≡◌, ℕ, ap, sym, subst, ◌∙◌}
+use Rattle.std.proofs.Common.{◌≡◌, ℕ, Result, Ok, Err, IfOk, ap, sym, subst, ◌∙◌}
+use Rattle.c11_num.specs.declared.memory.NoMemory.{NoMemory}
 use Rattle.std.proofs.lemmas.List.Sorted.{All-permutation}
 use Rattle.c11_report.specs.declared.summary.Summary.{Summary}
 use Rattle.c11_machine.specs.Runs.{Program}
@@ -26,3 +27,9 @@ sums_up free program first count bound kept h summary is first_is count_is bound
       count_is = count_is;
       bound_is = bound_is;
     }
+
+-- the same of what a call answers
+pub sums_up_if : OrderIsFree → (program : Program) (first count bound : ℕ) (kept : Kept) → HasRunAll program first count bound kept → (answer : Result Summary NoMemory)
+    → IfOk answer (λ summary. (summary.first ≡ first) × (summary.count ≡ count) × (summary.steps ≡ bound)) → IfOk answer (λ summary. kept_in summary ≡ kept) → IfOk answer (IsSummary program first count bound)
+sums_up_if free program first count bound kept h (Ok summary) head is = sums_up free program first count bound kept h summary is head.0 head.1 head.2
+sums_up_if free program first count bound kept h (Err why) head is = tt

@@ -1,5 +1,5 @@
 -- What the workers of a campaign tallied, taken one worker after the other from the end of their list.
-use Rattle.std.proofs.Common.{◌≡◌, ℕ, ◌+◌, ◌<◌, ◌≤◌, List, [], ◌∷◌, ◌++◌, length, All, Result, Ok, IfOk, ap, sym, subst, ◌∙◌, arith}
+use Rattle.std.proofs.Common.{suc, refl, slice_index_or, ◌≡◌, ℕ, ◌+◌, ◌<◌, ◌≤◌, List, [], ◌∷◌, ◌++◌, length, All, Result, Ok, IfOk, ap, sym, subst, ◌∙◌, arith}
 use Rattle.std.proofs.lemmas.List.{length-append}
 use Rattle.std.proofs.lemmas.List.Elements.{All-nil, All-cons, All-head, All-tail}
 use Rattle.std.proofs.lemmas.List.Sums.{sum_by-append}
@@ -9,7 +9,8 @@ use Rattle.c11_claims.specs.Claims.{Counter, beyond, times}
 use Rattle.c11_claims.proofs.Counts.{beyond-append}
 use Rattle.c11_tally.specs.Tallies.{Ran, Kept, StandsFor, runs}
 use Rattle.c11_campaign.specs.declared.hunt.Worked.{Worked}
-use Rattle.c11_campaign.specs.Workers.{HasRun, HasRunAll, HasWorked, IsWorked, below, worked_shares}
+use Rattle.c11_campaign.specs.declared.hunt.Worker.{Worker}
+use Rattle.c11_campaign.specs.Workers.{AreDealt, AreWorked, Gives, HasRun, HasRunAll, HasWorked, IsWorked, below, worked_shares, worker_shares}
 use Rattle.c11_campaign.proofs.Numbers.{below-append, few_below, once_claimed}
 use Rattle.c11_campaign.proofs.Tallying.{together}
 
@@ -62,3 +63,32 @@ still_ended count xs ys now some is = subst (λ (zs : List ℕ). 0 < beyond coun
 pub all_gathered : (program : Program) (first bound : ℕ) (claims : Counter) (claimed : List ℕ) (kept : Kept) → HasRun program first bound (below claims.count claimed) kept
     → ((x : ℕ) → x < claims.count → times x claimed ≡ 1) → HasRunAll program first claims.count bound kept
 all_gathered program first bound claims claimed kept h once = record { numbers = below claims.count claimed; run = h; once = once_claimed claims.count claimed once }
+
+-- ---- one worker's results beside its seat
+
+-- the result at this place, and the seat that it was made with
+pub record Picked (program : Program) (first bound : ℕ) (claims : Counter) (team : List Worker) (worked : List Worked) (i : ℕ) (d : Worked) : Type 0 where
+  pub seat : Worker
+  pub seat_is : (e : Worker) → slice_index_or team i e ≡ seat
+  pub gives : Gives program first bound claims seat (slice_index_or worked i d)
+
+pairwise : (program : Program) (first bound : ℕ) (claims : Counter) (team : List Worker) (worked : List Worked) → length worked ≡ length team
+    → ((i : ℕ) (d : Worked) → i < length team → Picked program first bound claims team worked i d)
+    → All (IsWorked program first bound claims) worked × (worked_shares worked ≡ worker_shares team)
+pairwise program first bound claims [] [] same each = (All-nil (IsWorked program first bound claims), refl)
+pairwise program first bound claims [] (x ∷ xs) same each = absurd (omega (arith, same))
+pairwise program first bound claims (w ∷ ws) [] same each = absurd (omega (arith, same))
+pairwise program first bound claims (w ∷ ws) (x ∷ xs) same each =
+    let p = each 0 x (omega arith) in
+    let rest = pairwise program first bound claims ws xs (omega (arith, same))
+    (λ i d low. let q = each (suc i) d (omega (arith, low)) in record { seat = q.seat; seat_is = q.seat_is; gives = q.gives }) in
+    let shares : x.claimer.shares ≡ w.claimer.shares = p.gives.shares ∙ ap (λ (v : Worker). v.claimer.shares) (sym (p.seat_is w)) in
+    let here : worked_shares (x ∷ xs) ≡ (0 + x.claimer.shares) + worked_shares xs = sum_by-append (λ (v : Worked). v.claimer.shares) (x ∷ []) xs in
+    let dealt : worker_shares (w ∷ ws) ≡ (0 + w.claimer.shares) + worker_shares ws = sum_by-append (λ (v : Worker). v.claimer.shares) (w ∷ []) ws in
+    (All-cons (IsWorked program first bound claims) x xs p.gives.is rest.0, omega (arith, here, dealt, shares, rest.1))
+
+-- the results of all workers that were dealt a seat
+pub all_worked : (program : Program) (first bound : ℕ) (claims : Counter) (team : List Worker) (worked : List Worked) → length worked ≡ length team
+    → ((i : ℕ) (d : Worked) → i < length team → Picked program first bound claims team worked i d) → AreDealt claims team → AreWorked program first bound claims worked
+all_worked program first bound claims team worked same each dealt =
+    let both = pairwise program first bound claims team worked same each in record { each = both.0; shares = both.1 ∙ dealt.shares }

@@ -34,15 +34,24 @@ worker_shares workers = sum_by (λ (w : Worker). w.claimer.shares) workers
 abbrev pub worked_shares : List Worked → ℕ
 worked_shares worked = sum_by (λ (w : Worked). w.claimer.shares) worked
 
--- each has a seat of these claims and has claimed nothing, and they have all shares
+-- it has a seat of these claims and has claimed nothing
+abbrev pub IsFresh : Counter → Worker → Type 0
+IsFresh claims w = w.claimer ≡ hand claims w.claimer.shares []
+
+-- each is fresh, and they have all shares
 pub record AreDealt (claims : Counter) (workers : List Worker) : Type 0 where
-  pub each : All (λ (w : Worker). w.claimer ≡ hand claims w.claimer.shares []) workers
+  pub each : All (IsFresh claims) workers
   pub shares : worker_shares workers ≡ 64
 
 -- what a worker gives back
 pub record IsWorked (program : Program) (first bound : ℕ) (claims : Counter) (w : Worked) : Type 0 where
   pub here : w.claimer.claims ≡ claims
   pub tallied : IfOk w.tallied (HasWorked program first bound claims w.claimer.claimed)
+
+-- what this worker gives back
+pub record Gives (program : Program) (first bound : ℕ) (claims : Counter) (w : Worker) (worked : Worked) : Type 0 where
+  pub shares : worked.claimer.shares ≡ w.claimer.shares
+  pub is : IsWorked program first bound claims worked
 
 -- each has worked, and they have all shares
 pub record AreWorked (program : Program) (first bound : ℕ) (claims : Counter) (worked : List Worked) : Type 0 where
