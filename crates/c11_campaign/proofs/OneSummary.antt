@@ -1,5 +1,5 @@
--- A program has one summary at most of the same seeds with the same bound.
-use Rattle.std.proofs.Common.{◌≡◌, ℕ, List, [], ◌∷◌, All, refl, ap, sym, subst, ◌∙◌}
+-- A program has one summary at most of the same seeds with the same bound, and its counts sum to the number of seeds.
+use Rattle.std.proofs.Common.{◌≡◌, ℕ, ◌+◌, zero, suc, List, [], ◌∷◌, length, All, refl, ap, sym, subst, ◌∙◌}
 use Rattle.std.proofs.lemmas.List.Elements.{All-head, All-tail}
 use Rattle.c11_report.specs.declared.summary.Summary.{Summary}
 use Rattle.c11_events.specs.declared.entry.Entry.{Entry}
@@ -7,10 +7,10 @@ use Rattle.c11_events.specs.declared.verdict.Verdict.{Verdict}
 use Rattle.c11_events.specs.Offered.{Offered}
 use Rattle.c11_machine.specs.Runs.{Program, OneRun}
 use Rattle.c11_run.specs.Laws.{OneRunIsOne}
-use Rattle.c11_tally.specs.Laws.{KeptIsOne}
-use Rattle.c11_tally.specs.Tallies.{Ran, Kept, StandsFor, kept_in, cut}
+use Rattle.c11_tally.specs.Laws.{KeptIsOne, RunsAreCounted, OutputsAreCounted}
+use Rattle.c11_tally.specs.Tallies.{Ran, Kept, StandsFor, kept_in, cut, runs, counted}
 use Rattle.c11_run.specs.Output.{output_of}
-use Rattle.c11_campaign.specs.Summaries.{IsRan, IsSummary}
+use Rattle.c11_campaign.specs.Summaries.{IsRan, IsSummary, seeds_from}
 use Rattle.c11_campaign.proofs.Ordering.{seeds}
 
 abbrev ran : ℕ → Verdict → List ℕ → Ran
@@ -48,3 +48,17 @@ one_summary one kept program first count bound s t p q =
     let bound_is : s.steps ≡ t.steps = p.bound_is ∙ sym q.bound_is in
     ap (λ (n : ℕ). summary n s.count s.steps (kept_in s)) first_is ∙ (ap (λ (n : ℕ). summary t.first n s.steps (kept_in s)) count_is
     ∙ (ap (λ (n : ℕ). summary t.first t.count n (kept_in s)) bound_is ∙ ap (λ (k : Kept). summary t.first t.count t.steps k) told))
+
+length_seeds : (rans : List Ran) → length (seeds rans) ≡ length rans
+length_seeds [] = refl
+length_seeds (ran ∷ rans) = ap suc (length_seeds rans)
+
+length_from : (first count : ℕ) → length (seeds_from first count) ≡ count
+length_from first zero = refl
+length_from first (suc count) = ap suc (length_from (first + 1) count)
+
+pub counts_sum_up : RunsAreCounted → OutputsAreCounted → (program : Program) (first count bound : ℕ) (summary : Summary) → IsSummary program first count bound summary
+    → (runs summary.tallies ≡ count) × (counted summary.outputs ≡ count)
+counts_sum_up runs_counted outputs_counted program first count bound summary p =
+    let many : length p.rans ≡ count = sym (length_seeds p.rans) ∙ (ap length p.seeds ∙ length_from first count) in
+    (runs_counted p.rans summary.tallies p.counts.tallies ∙ many, outputs_counted p.rans summary.outputs p.counts.outputs ∙ many)

@@ -12,7 +12,7 @@ abbrev pub seeds_from : ℕ → ℕ → List ℕ
 seeds_from first zero = []
 seeds_from first (suc count) = first ∷ seeds_from (first + 1) count
 
--- the one run of the program with this seed and the bound ended with this verdict, and wrote this, of which the first bytes count
+-- the one run of the program with this seed and the bound ended with this verdict, and wrote this, of which the first 256 bytes count
 pub record IsRan (program : Program) (bound : ℕ) (ran : Ran) : Type 0 where
   pub entries : List Entry
   pub run : OneRun Offered program ran.seed bound entries ran.verdict

@@ -67,15 +67,19 @@ fits views c n k counts within empty once passed =
     let parts = total_le (λ v. span (λ x. times x v.claimed) c k) (λ v. v.shares) views (λ id v at. part_fits c k v (counts id v at) (within id v at) (empty id v at)) in
     omega (arith, all, held, total_span (λ x v. times x v.claimed) views c k, parts)
 
+-- a word below which each number is held once is at most 64 above the count
+word_less : (views : List View) (c n : ℕ) → Each (Counts c) views → Each Within views → Each Empty views → ((x : ℕ) → total (λ v. times x v.claimed) views ≡ once_below x n)
+    → total (λ v. v.shares) views ≡ 64 → n < c + 65
+word_less views c n counts within empty once shares =
+    dite (dec_le (c + 65) n)
+    (λ (passed : c + 65 ≤ n). absurd (let enough : 65 ≤ total (λ u. u.shares) views = fits views c n 65 counts within empty once passed in omega (arith, shares)))
+    (λ (no : c + 65 ≤ n → ⊥). omega arith)
+
 -- the word is at most 64 above the count
 word_near : {S : Type 0} (s : State S View) (id : ℕ) (v : View) → IsClaimed s → get_elem? s.views id ≡ some v → 0 < v.shares → slice_index s.words 0 < v.count + 65
 unfolding Within Empty
 word_near s id v h at share =
-    let n = slice_index s.words 0 in
-    let counts = counts_of s.views id v at share h.count in
-    dite (dec_le (v.count + 65) n)
-    (λ (passed : v.count + 65 ≤ n). absurd (let enough : 65 ≤ total (λ u. u.shares) s.views = fits s.views v.count n 65 counts h.within h.empty h.once passed in omega (arith, h.shares)))
-    (λ (no : v.count + 65 ≤ n → ⊥). omega arith)
+    word_less s.views v.count (slice_index s.words 0) (counts_of s.views id v at share h.count) h.within h.empty h.once h.shares
 
 -- a view holds each number below the word at most once, and no other
 held_once : {S : Type 0} (s : State S View) (id : ℕ) (v : View) → IsClaimed s → get_elem? s.views id ≡ some v → (x : ℕ) → times x v.claimed ≤ once_below x (slice_index s.words 0)
@@ -92,22 +96,33 @@ gains slots id v held share going small s h homes at range =
     let word : slice_index (set s.words 0 ((n + 1) % 2 ^ 64)) 0 ≡ n + 1 = the_word s.words _ h.words ∙ next in
     let counts = counts_of s.views id v at share h.count in
     let room : beyond v.count (v.claimed ++ n ∷ []) ≤ v.shares = omega (arith, beyond-append v.count v.claimed (n ∷ []), beyond_one v.count n) in
+    let views = set s.views id w in
+    let same = each_set (Counts v.count) s.views id w counts (λ _. refl) in
+    let within = each_set Within s.views id w h.within room in
+    let empty = each_set Empty s.views id w h.empty (λ spent. absurd (omega arith)) in
+    let each : (x : ℕ) → total (λ u. times x u.claimed) views ≡ once_below x (n + 1) =
+    λ x. omega (arith, total_set (λ u. times x u.claimed) s.views id v w at, h.once x, times-append x v.claimed (n ∷ []), once_more x n)
+    in
+    let all : total (λ u. u.shares) views ≡ 64 = omega (arith, total_set (λ u. u.shares) s.views id v w at, h.shares) in
     let once = held_once s id v h at in (
       w,
       keeps,
       tt,
       record {
         words = one_word s.words _ h.words;
-        count = one_count v.count (set s.views id w) (each_set (Counts v.count) s.views id w counts (λ _. refl));
-        once = λ x. rw word (omega (arith, total_set (λ u. times x u.claimed) s.views id v w at, h.once x, times-append x v.claimed (n ∷ []), once_more x n));
-        shares = omega (arith, total_set (λ u. u.shares) s.views id v w at, h.shares);
-        within = each_set Within s.views id w h.within room;
-        empty = each_set Empty s.views id w h.empty (λ spent. absurd (omega arith));
+        count = one_count v.count views same;
+        once = λ x. rw word (each x);
+        shares = all;
+        within = within;
+        empty = empty;
       },
       record {
+        share = λ spent. omega arith;
+        going = going;
         gained = refl;
         larger = once_all v.claimed n once;
         fewer = once_few v.claimed n once;
+        near = omega (arith, word_less views v.count (n + 1) same within empty each all);
       },
     )
 

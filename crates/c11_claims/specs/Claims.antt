@@ -76,8 +76,12 @@ pub record IsClaimed {S : Type 0} (s : State S View) : Type 0 where
 abbrev pub view_of : ℕ → ℕ → List ℕ → View
 view_of count shares claimed = record { count = count; shares = shares; claimed = claimed }
 
--- The seat gains the number found, which is larger than all that it held, and no less than how many these are.
+-- The seat, which has a share and holds no number that is not below the count, gains the number found. That is larger than all that
+-- it held, no less than how many these are, and at most 63 above the count, since each share has one number at most beyond it.
 pub record Gains {S : Type 0} (before : Me S View) (found : ℕ) (after : Me S View) : Type 0 where
+  pub share : ¬ IsSpent before.0
+  pub going : beyond before.0.count before.0.claimed ≡ 0
   pub gained : after ≡ (view_of before.0.count before.0.shares (before.0.claimed ++ found ∷ []), before.1)
   pub larger : All (λ m. m < found) before.0.claimed
   pub fewer : length before.0.claimed ≤ found
+  pub near : found < before.0.count + 64

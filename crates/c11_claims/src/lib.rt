@@ -79,13 +79,14 @@ impl Claims {
         }
     }
 
-    /// The next number, or `None` if it is not below the count. The seat holds it then too, and may claim no more.
+    /// The next number, or `None` if it is not below the count. The seat holds it then too, and may claim no more. It is at most 63
+    /// above the count, whoever claims.
     pub fn claim(&self, claimer: &mut Claimer) -> Option<u64>
         requires here { claimer.old.claims ≡ self.now }
         requires going { beyond self.now.count claimer.old.claimed ≡ 0 }
         ensures some { IfSome result (λ n. (n < self.now.count)
             × (claimer.new ≡ hand self.now claimer.old.shares (claimer.old.claimed ++ n ∷ []))) }
-        ensures none { IfNone result ((m : ℕ) × (self.now.count ≤ m)
+        ensures none { IfNone result ((m : ℕ) × (self.now.count ≤ m) × (m < self.now.count + 64)
             × (claimer.new ≡ hand self.now claimer.old.shares (claimer.old.claimed ++ m ∷ []))) }
 
         // A claim is larger than those before it, and no less than how many they are: so a worker's loop ends.

@@ -32,7 +32,8 @@ impl Play<u8, View> for Next {
     ghost then = { λ _ before found after. Gains before found after };
 }
 
-/// A new seat gets one share, the same count and no number.
+/// A new seat gets one share, the same count and no number. A seat makes it that keeps a share, and as many as it holds numbers that
+/// are not below the count (`another` asks for both).
 pub struct OneShare;
 
 impl Split<View> for OneShare {

@@ -1,3 +1,4 @@
+pub mod Counted
 pub mod Cutting
 pub mod Listing
 pub mod Printed

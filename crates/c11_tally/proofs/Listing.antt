@@ -22,7 +22,7 @@ use Rattle.c11_tally.specs.Tallies.{AreSome, listed}
 abbrev pub share : List ℕ → List ℕ × ℕ → ℕ
 share bytes pair = cond (bytes_eq pair.0 bytes) pair.1 0
 
-listed-cons : (pair : List ℕ × ℕ) (pairs : List (List ℕ × ℕ)) (bytes : List ℕ) → listed (pair ∷ pairs) bytes ≡ share bytes pair + listed pairs bytes
+pub listed-cons : (pair : List ℕ × ℕ) (pairs : List (List ℕ × ℕ)) (bytes : List ℕ) → listed (pair ∷ pairs) bytes ≡ share bytes pair + listed pairs bytes
 listed-cons pair pairs bytes = sum_by-cons (share bytes) pair pairs
 
 -- how bytes, and keys, compare to a key
@@ -145,7 +145,7 @@ below_none bytes [] h = refl
 below_none bytes (p ∷ ps) h =
     let here : share bytes p ≡ 0 = ap (λ (b : Bool). cond b p.1 0) (differ bytes p.0 h.0) in let rest = below_none bytes ps h.1 in let all = listed-cons p ps bytes in omega arith
 
-first_only : (p : List ℕ × ℕ) (ps : List (List ℕ × ℕ)) → AreInOrder (p ∷ ps) → listed (p ∷ ps) p.0 ≡ p.1
+pub first_only : (p : List ℕ × ℕ) (ps : List (List ℕ × ℕ)) → AreInOrder (p ∷ ps) → listed (p ∷ ps) p.0 ≡ p.1
 unfolding IsStrictlySortedBy
 first_only p ps h = let here = found_share p.0 p.0 p.1 refl in let rest = below_none p.0 ps h.0 in let all = listed-cons p ps p.0 in omega arith
 
@@ -157,7 +157,7 @@ below_first : (bytes : List ℕ) (p : List ℕ × ℕ) (ps : List (List ℕ × �
 unfolding IsStrictlySortedBy
 below_first bytes p ps h less = below_none bytes (p ∷ ps) (less, all_above bytes p.0 ps less h.0)
 
-rest_in_order : (p : List ℕ × ℕ) (ps : List (List ℕ × ℕ)) → AreInOrder (p ∷ ps) → AreInOrder ps
+pub rest_in_order : (p : List ℕ × ℕ) (ps : List (List ℕ × ℕ)) → AreInOrder (p ∷ ps) → AreInOrder ps
 unfolding IsStrictlySortedBy
 rest_in_order p ps h = h.1
 

@@ -9,7 +9,7 @@ use Rattle.c11_tally.proofs.Tallying.{tallies_are_one, tallies_permutation}
 use Rattle.c11_tally.specs.Pairs.{Raises, Adds}
 use Rattle.c11_tally.specs.Tallies.{Ran, AreOutputsOf, Kept, StandsFor}
 
-abbrev printed : List ℕ → Ran → ℕ
+abbrev pub printed : List ℕ → Ran → ℕ
 printed bytes ran = cond (bytes_eq ran.output bytes) 1 0
 
 pub outputs_none : AreOutputsOf [] []

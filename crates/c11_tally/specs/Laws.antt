@@ -5,7 +5,7 @@ use Rattle.c11_report.specs.declared.tally.Tallies.{Tallies}
 use Rattle.c11_report.specs.Outputs.{AreInOrder}
 use Rattle.c11_report.specs.Summaries.{HaveLeasts}
 use Rattle.c11_tally.specs.Joined.{joined_tallies}
-use Rattle.c11_tally.specs.Tallies.{Ran, AreTalliesOf, AreOutputsOf, AreSome, listed, runs, Kept, StandsFor}
+use Rattle.c11_tally.specs.Tallies.{Ran, AreTalliesOf, AreOutputsOf, AreSome, listed, counted, runs, Kept, StandsFor}
 
 -- the tallies of two lists of runs, put together, are those of all the runs
 abbrev pub TalliesJoin : Type 0
@@ -32,6 +32,10 @@ KeptIsOne = (rans : List Ran) (kept other : Kept) → StandsFor kept rans → St
 -- each run is counted for one word
 abbrev pub RunsAreCounted : Type 0
 RunsAreCounted = (rans : List Ran) (tallies : Tallies) → AreTalliesOf rans tallies → runs tallies ≡ length rans
+
+-- each run is counted for one output
+abbrev pub OutputsAreCounted : Type 0
+OutputsAreCounted = (rans : List Ran) (pairs : List (List ℕ × ℕ)) → AreOutputsOf rans pairs → counted pairs ≡ length rans
 
 -- there is a least seed exactly where a run was counted
 abbrev pub TalliesHaveLeasts : Type 0

@@ -95,6 +95,10 @@ AreTalliesOf rans tallies = (word : Word) → IsTallyOf word rans (tally_at word
 abbrev pub listed : List (List ℕ × ℕ) → List ℕ → ℕ
 listed pairs bytes = sum_by (λ (pair : List ℕ × ℕ). if bytes_eq pair.0 bytes then pair.1 else 0) pairs
 
+-- the counts of all pairs
+abbrev pub counted : List (List ℕ × ℕ) → ℕ
+counted pairs = sum_by (λ (pair : List ℕ × ℕ). pair.1) pairs
+
 -- each count is above 0
 abbrev pub AreSome : List (List ℕ × ℕ) → Type 0
 AreSome pairs = All (λ count. 0 < count) (values_of pairs)

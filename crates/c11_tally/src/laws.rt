@@ -1,5 +1,5 @@
 //! The laws of what a campaign keeps: empty functions whose contracts are the laws.
-ghost use Rattle.c11_tally.specs.Laws.{TalliesJoin, OutputsJoin, OrderIsFree, KeptIsOne, RunsAreCounted, TalliesHaveLeasts};
+ghost use Rattle.c11_tally.specs.Laws.{TalliesJoin, OutputsJoin, OrderIsFree, KeptIsOne, RunsAreCounted, OutputsAreCounted, TalliesHaveLeasts};
 
 /// The tallies of two lists of runs, put together, are those of all the runs.
 pub fn tallies_join()
@@ -24,6 +24,11 @@ pub fn kept_is_one()
 /// Each run is counted for one word.
 pub fn runs_are_counted()
     ensures { RunsAreCounted }
+{}
+
+/// Each run is counted for one output.
+pub fn outputs_are_counted()
+    ensures { OutputsAreCounted }
 {}
 
 /// There is a least seed exactly where a run was counted.

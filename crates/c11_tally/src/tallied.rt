@@ -51,7 +51,7 @@ impl Tallied {
         }
     }
 
-    /// Adds a run: its seed, its verdict and its history. It takes no memory for an output that it met before.
+    /// Adds a run: its seed, its verdict and its history.
     ///
     /// The only error is that memory ran out; what is kept then is as before.
     pub fn add(&mut self, seed: u64, verdict: Verdict, entries: &[Entry]) -> Result<(), NoMemory>

@@ -15,7 +15,7 @@ returns-in_default-clause-tallied g c =
     let inv = c.loop-turn.invariant in
     let few : length c.loop-turn.claimer.claimed ≤ c.args.claims.now.count = omega (arith, inv.3, inv.4, c.requires.count) in
     ended (program_of c.args.hunt.now.checked.now) c.args.hunt.now.first c.args.hunt.now.steps c.args.claims.now c.loop-turn.claimer.claimed c.claim.new.claimer.claimed none.0 c.loop-turn.tallied
-    inv.5 inv.2 few none.1 (ap (λ (h : Hand). h.claimed) none.2)
+    inv.5 inv.2 few none.1 (ap (λ (h : Hand). h.claimed) none.3)
 
 pub loop-turn-preserved : goal.loop-turn-preserved
 loop-turn-preserved g c =
