@@ -1,16 +1,22 @@
 -- What the numbers of a command are within.
-use Rattle.std.proofs.Common.{◌≡◌, ℕ, ◌≤◌, Bool, true, false, ◌&&◌, List, [], ◌∷◌, Option, Some, None, IfSome, refl, subst, arith}
+use Rattle.std.proofs.Common.{◌≡◌, ℕ, ◌+◌, ◌^◌, ◌<◌, ◌≤◌, Bool, true, false, ◌&&◌, List, [], ◌∷◌, Option, Some, None, IfSome, refl, subst, arith}
 use Rattle.std.specs.Prelude.{◌%◌, ◌==◌, length, nat_le, if◌then◌else◌, codes}
 use Rattle.std.specs.Str.{bytes_eq}
 use Rattle.std.specs.Str.Parse.{digits_value}
 use Rattle.std.proofs.lemmas.Bool.Decides.{nat_tests}
 use Rattle.c11_commands.specs.declared.words.Command.{Command}
+use Rattle.c11_commands.specs.declared.words.Command.TheVariants.{Help, Run, Campaign, Trial}
+use Rattle.c11_commands.specs.declared.words.Seeds.{Seeds}
 use Rattle.c11_commands.specs.declared.words.Limits.{Limits}
-use Rattle.c11_commands.specs.Words.{Pair, is_numeral, number_within, setting, step_limits, seed_limits, values_of, run_with, help_of, run_of, are_known, command_of, pairs_of, reading, HasGoodNumbers}
+use Rattle.c11_commands.specs.Words.{Pair, is_numeral, number_within, setting, step_limits, seed_limits, count_limits, worker_limits, campaign_step_limits, trial_step_limits, number_limits, size_limits, values_of, option, run_with, seeds_with, seeds_of, campaign_with, campaign_of, trial_with, trial_of, help_of, run_of, are_known, command_of, pairs_of, reading, HasGoodNumbers}
 
 -- the number lies within the limits
 abbrev Within : Limits → ℕ → Type 0
 Within limits n = (limits.least ≤ n) × (n ≤ limits.most)
+
+-- the last seed is one too
+abbrev AreGoodSeeds : Seeds → Type 0
+AreGoodSeeds seeds = (0 < seeds.count) × (seeds.count ≤ 1000000) × (seeds.first + seeds.count ≤ 2 ^ 64)
 
 -- what is chosen by a test
 chosen_if : {A : Type 0} (P : A → Type 0) (b : Bool) (one other : Option A) → IfSome one P → IfSome other P → IfSome (if b then one else other) P
@@ -44,13 +50,66 @@ run_of_good pairs = chosen_if HasGoodNumbers (are_known (codes "--seed" ∷ code
     (run_good (setting seed_limits (values_of (codes "--seed") pairs)) (setting step_limits (values_of (codes "--steps") pairs))
     (setting_within step_limits (values_of (codes "--steps") pairs) (omega arith) (omega arith))) tt
 
+seeds_good : (first count : Option ℕ) → IfSome count (Within count_limits) → IfSome (seeds_with first count) AreGoodSeeds
+seeds_good None count within = tt
+seeds_good (Some first) None within = tt
+seeds_good (Some first) (Some count) within = by_last (nat_le (first + count) 18446744073709551616) refl
+  where
+    by_last : (b : Bool) → nat_le (first + count) 18446744073709551616 ≡ b → IfSome (if b then Some (record { first = first; count = count }) else None) AreGoodSeeds
+    by_last true last = let low : first + count ≤ 18446744073709551616 = grind (arith, nat_tests) in (omega (arith, within.0), within.1, low)
+    by_last false last = tt
+
+seeds_of_good : (pairs : List Pair) → IfSome (seeds_of pairs) AreGoodSeeds
+seeds_of_good pairs = seeds_good (option seed_limits (codes "--first") pairs) (option count_limits (codes "--count") pairs)
+    (setting_within count_limits (values_of (codes "--count") pairs) (omega arith) (omega arith))
+
+campaign_good : (limits : Limits) → limits.least ≡ 1 → limits.most ≡ 4000 → (seeds : Option Seeds) (steps workers : Option ℕ) → IfSome seeds AreGoodSeeds → IfSome steps (Within limits)
+    → IfSome workers (Within worker_limits) → IfSome (campaign_with seeds steps workers) HasGoodNumbers
+campaign_good limits least most None steps workers s b w = tt
+campaign_good limits least most (Some seeds) None workers s b w = tt
+campaign_good limits least most (Some seeds) (Some steps) None s b w = tt
+campaign_good limits least most (Some seeds) (Some steps) (Some workers) s b w = record {
+  some_seed = s.0;
+  few_seeds = s.1;
+  last_seed = s.2;
+  some_step = omega (arith, b.0, least);
+  few_steps = omega (arith, b.1, most);
+  some_worker = omega (arith, w.0);
+  few_workers = w.1;
+}
+
+campaign_of_good : (pairs : List Pair) → IfSome (campaign_of pairs) HasGoodNumbers
+campaign_of_good pairs = chosen_if HasGoodNumbers (are_known (codes "--first" ∷ codes "--count" ∷ codes "--steps" ∷ codes "--workers" ∷ []) pairs) _ None
+    (campaign_good campaign_step_limits refl refl (seeds_of pairs) (option campaign_step_limits (codes "--steps") pairs) (option worker_limits (codes "--workers") pairs) (seeds_of_good pairs)
+    (setting_within campaign_step_limits (values_of (codes "--steps") pairs) (omega arith) (omega arith))
+    (setting_within worker_limits (values_of (codes "--workers") pairs) (omega arith) (omega arith))) tt
+
+trial_good : (number size : Option ℕ) (campaign : Option Command) → IfSome size (Within size_limits) → IfSome campaign HasGoodNumbers → IfSome (trial_with number size campaign) HasGoodNumbers
+trial_good None size campaign s c = tt
+trial_good (Some number) None campaign s c = tt
+trial_good (Some number) (Some size) None s c = tt
+trial_good (Some number) (Some size) (Some Help) s c = tt
+trial_good (Some number) (Some size) (Some (Run seed steps)) s c = tt
+trial_good (Some number) (Some size) (Some (Campaign first count steps workers)) s c = (omega (arith, s.0), s.1, c)
+trial_good (Some number) (Some size) (Some (Trial n z first count steps workers)) s c = tt
+
+trial_of_good : (pairs : List Pair) → IfSome (trial_of pairs) HasGoodNumbers
+trial_of_good pairs = chosen_if HasGoodNumbers (are_known (codes "--number" ∷ codes "--size" ∷ codes "--first" ∷ codes "--count" ∷ codes "--steps" ∷ codes "--workers" ∷ []) pairs) _ None
+    (trial_good (option number_limits (codes "--number") pairs) (option size_limits (codes "--size") pairs) _
+    (setting_within size_limits (values_of (codes "--size") pairs) (omega arith) (omega arith))
+    (campaign_good trial_step_limits refl refl (seeds_of pairs) (option trial_step_limits (codes "--steps") pairs) (option worker_limits (codes "--workers") pairs) (seeds_of_good pairs)
+    (setting_within trial_step_limits (values_of (codes "--steps") pairs) (omega arith) (omega arith))
+    (setting_within worker_limits (values_of (codes "--workers") pairs) (omega arith) (omega arith)))) tt
+
 help_of_good : (pairs : List Pair) → IfSome (help_of pairs) HasGoodNumbers
 help_of_good [] = tt
 help_of_good (pair ∷ more) = tt
 
 command_of_good : (name : List ℕ) (pairs : List Pair) → IfSome (command_of name pairs) HasGoodNumbers
 command_of_good name pairs = chosen_if HasGoodNumbers (bytes_eq name (codes "run")) _ _ (run_of_good pairs)
-    (chosen_if HasGoodNumbers (bytes_eq name (codes "help")) _ None (help_of_good pairs) tt)
+    (chosen_if HasGoodNumbers (bytes_eq name (codes "campaign")) _ _ (campaign_of_good pairs)
+    (chosen_if HasGoodNumbers (bytes_eq name (codes "trial")) _ _ (trial_of_good pairs)
+    (chosen_if HasGoodNumbers (bytes_eq name (codes "help")) _ None (help_of_good pairs) tt)))
 
 reading_good : (words : List (List ℕ)) → IfSome (reading words) HasGoodNumbers
 reading_good [] = tt

@@ -68,7 +68,7 @@ pub record Answers {S K : Type 0} (left : S → Option (List ℕ)) (read_faults 
     (job : Job) (source source' : S) (sink sink' : K) (status : Status) : Type 0 where
   -- the headline: with each of these statuses what is due was written whole
   pub headline : IsWhole status → PrintsWhole job (left source) (left source') status (taken sink) (taken sink')
-  -- the faults, with what is left then
+  -- the faults, with what was written then
   pub read_fault : status ≡ ReadFault → IsTrue job.reads × Rose (read_faults source) (read_faults source') × (sink' ≡ sink)
   pub write_fault : status ≡ WriteFault
       → OneRose (faults sink) (faults sink') (empties sink) (empties sink') × PrintsPart job (left source) (left source') (taken sink) (taken sink')

@@ -12,12 +12,16 @@ use Rattle.c11_machine.specs.Runs.{OneRun}
 use Rattle.c11_report.specs.declared.text.Mode.TheVariants as mode
 use Rattle.c11_report.specs.declared.refusal.Refusal.{Refusal}
 use Rattle.c11_report.specs.Execution.{execution_bytes, names_of}
+use Rattle.c11_report.specs.declared.summary.Summary.{Summary}
+use Rattle.c11_report.specs.Summaries.{summary_bytes}
+use Rattle.c11_campaign.specs.Summaries.{IsSummary}
+use Rattle.c11_ring.specs.Ring.{ring_bytes}
 use Rattle.c11_accepts.specs.Texts.{Accepts, IsRefusedAs, longest}
 use Rattle.c11_commands.specs.declared.words.Command.{Command}
-use Rattle.c11_commands.specs.declared.words.Command.TheVariants.{Help, Run}
+use Rattle.c11_commands.specs.declared.words.Command.TheVariants.{Help, Run, Campaign, Trial}
 use Rattle.c11_commands.specs.declared.words.Status.{Status}
 use Rattle.c11_commands.specs.declared.words.Status.TheVariants.{Done, Usage}
-use Rattle.c11_commands.specs.Statuses.{status_of}
+use Rattle.c11_commands.specs.Statuses.{status_of, status_of_tallies}
 use Rattle.c11_commands.specs.Usage.{usage_bytes}
 
 pub record Job : Type 1 where
@@ -72,6 +76,35 @@ pub record IsRunOf (seed bound : ℕ) (text : List ℕ) (status : Status) (bytes
 abbrev pub run_job : ℕ → ℕ → Job
 run_job seed bound = program_job (IsRunOf seed bound)
 
+-- ---- `campaign` and `trial`
+
+-- the bytes are those of the summary of the checked program's runs with these seeds and the bound, and the status is by what it counts
+pub record IsSummaryText (checked : Checked) (first count bound : ℕ) (status : Status) (bytes : List ℕ) : Type 0 where
+  pub summary : Summary
+  pub is : IsSummary (program_of checked) first count bound summary
+  pub ends : status ≡ status_of_tallies summary.tallies
+  pub printed : bytes ≡ summary_bytes summary
+
+-- the text is accepted, and the bytes are those of the summary of its program's runs
+pub record IsCampaignOf (first count bound : ℕ) (text : List ℕ) (status : Status) (bytes : List ℕ) : Type 0 where
+  pub checked : Checked
+  pub accepted : Accepts text checked.program
+  pub is : IsChecked checked.program checked
+  pub sums : IsSummaryText checked first count bound status bytes
+
+abbrev pub campaign_job : ℕ → ℕ → ℕ → Job
+campaign_job first count bound = program_job (IsCampaignOf first count bound)
+
+-- it reads nothing: its program is the ring of these numbers
+abbrev pub trial_job : ℕ → ℕ → ℕ → ℕ → ℕ → Job
+trial_job number size first count bound = record {
+  reads = false;
+  most = 0;
+  takes = true;
+  refuses = λ text refusal. ⊥;
+  answers = λ text. IsCampaignOf first count bound (ring_bytes number size);
+}
+
 -- ---- all commands
 
 -- the command that the words ask for; where they ask for none, the usage text is written
@@ -79,3 +112,5 @@ abbrev pub job_of : Option Command → Job
 job_of None = usage_job Usage
 job_of (Some Help) = usage_job Done
 job_of (Some (Run seed bound)) = run_job seed bound
+job_of (Some (Campaign first count bound workers)) = campaign_job first count bound
+job_of (Some (Trial number size first count bound workers)) = trial_job number size first count bound

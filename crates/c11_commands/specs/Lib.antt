@@ -4,3 +4,4 @@ pub mod Usage
 pub mod Jobs
 pub mod Answers
 pub mod Programs
+pub mod Laws

@@ -1,7 +1,8 @@
 -- What the program ends with: the statuses, and which come with what.
-use Rattle.std.specs.Prelude.{ℕ, ⊤}
+use Rattle.std.specs.Prelude.{ℕ, ⊤, Bool, nat_lt, ◌||◌, if◌then◌else◌}
 use Rattle.c11_events.specs.declared.verdict.Verdict.{Verdict}
 use Rattle.c11_events.specs.declared.verdict.Verdict.TheVariants as verdict
+use Rattle.c11_report.specs.declared.tally.Tallies.{Tallies}
 use Rattle.c11_commands.specs.declared.words.Status.{Status}
 use Rattle.c11_commands.specs.declared.words.Status.TheVariants.{Done, Found, Bound, Refused, Usage, ReadFault, WriteFault, NoMemory}
 
@@ -21,6 +22,14 @@ abbrev pub status_of : Verdict → Status
 status_of verdict.Done = Done
 status_of verdict.Bound = Bound
 status_of _ = Found
+
+-- a run ended otherwise than with `done` or `bound`
+abbrev pub found_some : Tallies → Bool
+found_some t = nat_lt 0 t.race.count || nat_lt 0 t.assert_.count || nat_lt 0 t.fault.count || nat_lt 0 t.local.count || nat_lt 0 t.deadlock.count
+
+-- the status of a campaign, by what it counted: that of the worst run
+abbrev pub status_of_tallies : Tallies → Status
+status_of_tallies t = if found_some t then Found else (if nat_lt 0 t.bound.count then Bound else Done)
 
 -- the statuses that come with a whole text
 abbrev pub IsWhole : Status → Type 0

@@ -4,7 +4,7 @@ ghost use Rattle.std.specs.List.{list_any};
 ghost use Rattle.std.specs.Str.{bytes_eq};
 ghost use Rattle.std.specs.Str.Parse.{digits_value};
 ghost use Rattle.c11_commands.specs.Statuses.{exit_number};
-ghost use Rattle.c11_commands.specs.Words.{pairs_of, are_known, values_of, is_numeral, number_within, setting, help_of, run_of, command_of, reading};
+ghost use Rattle.c11_commands.specs.Words.{pairs_of, are_known, values_of, is_numeral, number_within, setting, help_of, run_of, campaign_of, trial_of, seeds_of, command_of, reading};
 
 /// How the program ended.
 #[derive(Clone, Copy, Debug, PartialEq, Eq)]
@@ -48,6 +48,32 @@ pub enum Command {
         /// How many steps it may take, 1 to 10,000.
         steps: u32,
     },
+    /// A run for each of many seeds, and one summary.
+    Campaign {
+        /// The first seed.
+        first: u64,
+        /// How many seeds, 1 to 1,000,000; the last seed is a `u64` too.
+        count: u64,
+        /// How many steps each run may take, 1 to 4,000.
+        steps: u32,
+        /// How many workers, 1 to 64.
+        workers: u32,
+    },
+    /// A campaign over a program that is made from two numbers.
+    Trial {
+        /// What the program is made from.
+        number: u64,
+        /// How many packets it passes, 1 to 200.
+        size: u32,
+        /// The first seed.
+        first: u64,
+        /// How many seeds, 1 to 1,000,000; the last seed is a `u64` too.
+        count: u64,
+        /// How many steps each run may take, 1 to 4,000.
+        steps: u32,
+        /// How many workers, 1 to 64.
+        workers: u32,
+    },
 }
 
 /// The numbers that an option takes.
@@ -73,6 +99,42 @@ const STEPS: Limits = Limits {
     default: 2_000,
 };
 
+const COUNT: Limits = Limits {
+    least: 1,
+    most: 1_000_000,
+    default: 100,
+};
+
+const CAMPAIGN_STEPS: Limits = Limits {
+    least: 1,
+    most: 4_000,
+    default: 2_000,
+};
+
+const TRIAL_STEPS: Limits = Limits {
+    least: 1,
+    most: 4_000,
+    default: 4_000,
+};
+
+const WORKERS: Limits = Limits {
+    least: 1,
+    most: 64,
+    default: 4,
+};
+
+const NUMBER: Limits = Limits {
+    least: 0,
+    most: u64::MAX,
+    default: 0,
+};
+
+const SIZE: Limits = Limits {
+    least: 1,
+    most: 200,
+    default: 16,
+};
+
 /// The command that the words ask for, of which the first is not the program's own name. `None`
 /// where they ask for none.
 pub fn read_words(words: &[String]) -> Option<Command>
@@ -92,6 +154,8 @@ fn command_of(name: &str, options: &[String]) -> Option<Command>
 {
     match name {
         "run" => run_of(options),
+        "campaign" => campaign_of(options),
+        "trial" => trial_of(options),
         "help" => help_of(options),
         _ => None,
     }
@@ -118,6 +182,73 @@ fn run_of(options: &[String]) -> Option<Command>
         seed,
         steps: steps as u32,
     })
+}
+
+fn campaign_of(options: &[String]) -> Option<Command>
+    ensures { result ≡ campaign_of (pairs_of (map string_bytes options.now)) }
+{
+    if !are_known(&["--first", "--count", "--steps", "--workers"], options) {
+        return None;
+    }
+    let seeds = seeds_of(options)?;
+    let steps = setting(CAMPAIGN_STEPS, "--steps", options)?;
+    let workers = setting(WORKERS, "--workers", options)?;
+    Some(Command::Campaign {
+        first: seeds.first,
+        count: seeds.count,
+        steps: steps as u32,
+        workers: workers as u32,
+    })
+}
+
+fn trial_of(options: &[String]) -> Option<Command>
+    ensures { result ≡ trial_of (pairs_of (map string_bytes options.now)) }
+{
+    if !are_known(
+        &[
+            "--number",
+            "--size",
+            "--first",
+            "--count",
+            "--steps",
+            "--workers",
+        ],
+        options,
+    ) {
+        return None;
+    }
+    let number = setting(NUMBER, "--number", options)?;
+    let size = setting(SIZE, "--size", options)?;
+    let seeds = seeds_of(options)?;
+    let steps = setting(TRIAL_STEPS, "--steps", options)?;
+    let workers = setting(WORKERS, "--workers", options)?;
+    Some(Command::Trial {
+        number,
+        size: size as u32,
+        first: seeds.first,
+        count: seeds.count,
+        steps: steps as u32,
+        workers: workers as u32,
+    })
+}
+
+/// The seeds from the first on.
+#[derive(Clone, Copy)]
+struct Seeds {
+    first: u64,
+    count: u64,
+}
+
+/// The seeds of a campaign, of which the last is a seed too.
+fn seeds_of(options: &[String]) -> Option<Seeds>
+    ensures { result ≡ seeds_of (pairs_of (map string_bytes options.now)) }
+{
+    let first = setting(SEED, "--first", options)?;
+    let count = setting(COUNT, "--count", options)?;
+    if first.checked_add(count.saturating_sub(1)).is_none() {
+        return None;
+    }
+    Some(Seeds { first, count })
 }
 
 /// Whether each option has one of these names.
