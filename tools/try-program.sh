@@ -166,6 +166,10 @@ try_read_faults() {
     judge 'run, standard input closed' $? 5
     "$program" run --steps 10 --seed 3 <"$examples" >"$room/written" 2>"$room/said"
     judge 'run, a folder as standard input' $? 5
+    "$program" campaign --count 2 <&- >"$room/written" 2>"$room/said"
+    judge 'campaign, standard input closed' $? 5
+    "$program" campaign --count 2 --workers 64 <"$examples" >"$room/written" 2>"$room/said"
+    judge 'campaign, a folder as standard input' $? 5
 }
 
 try_write_faults() {
@@ -177,10 +181,152 @@ try_write_faults() {
     judge 'run, a full device as standard output' $? 6
     "$program" run </dev/null >/dev/full 2>"$room/said"
     judge 'run over a text that is refused, a full device as standard output' $? 6
+    "$program" campaign --count 2 <"$examples/first.c" >&- 2>"$room/said"
+    judge 'campaign, standard output closed' $? 6
+    "$program" campaign --count 2 --workers 64 <"$examples/first.c" >/dev/full 2>"$room/said"
+    judge 'campaign, a full device as standard output' $? 6
+    "$program" campaign </dev/null >/dev/full 2>"$room/said"
+    judge 'campaign over a text that is refused, a full device as standard output' $? 6
+    "$program" trial --size 1 --count 2 >&- 2>"$room/said"
+    judge 'trial, standard output closed' $? 6
+    "$program" trial --size 1 --count 2 >/dev/full 2>"$room/said"
+    judge 'trial, a full device as standard output' $? 6
     "$program" help >&- 2>"$room/said"
     judge 'help, standard output closed' $? 6
     "$program" >/dev/full 2>"$room/said"
     judge 'no words, a full device as standard output' $? 6
+}
+
+# A summary depends on the seeds and the bound, and not on how many work at it.
+try_campaigns() {
+    wants <<'END'
+campaign 1 first 0 count 5 steps 2000
+done 5 0
+bound 0 -
+race 0 -
+assert 0 -
+fault 0 -
+local 0 -
+deadlock 0 -
+outputs 1
+5 -
+END
+    try "$examples/first.c" 0 campaign --count 5
+    try "$examples/first.c" 0 campaign --workers 64 --steps 2000 --count 5 --first 0
+    wants <<'END'
+campaign 1 first 0 count 60 steps 2000
+done 59 0
+bound 0 -
+race 1 48
+assert 0 -
+fault 0 -
+local 0 -
+deadlock 0 -
+outputs 1
+60 -
+END
+    for workers in 1 4 64; do
+        try "$examples/message_passing_relaxed.c" 1 campaign --count 60 --workers "$workers"
+    done
+    wants <<'END'
+campaign 1 first 18446744073709551614 count 2 steps 3
+done 0 -
+bound 2 18446744073709551614
+race 0 -
+assert 0 -
+fault 0 -
+local 0 -
+deadlock 0 -
+outputs 1
+2 -
+END
+    for workers in 1 4 64; do
+        try "$examples/first.c" 2 campaign --first 18446744073709551614 --count 2 --steps 3 --workers "$workers"
+    done
+    echo 'refused nomain 1 1' | wants
+    try /dev/null 3 campaign
+    try /dev/null 3 campaign --count 1000000 --workers 64
+    echo 'refused long' | wants
+    dd if=/dev/zero of="$room/long" bs=65537 count=1 2>/dev/null
+    try "$room/long" 3 campaign --count 1
+    wants_usage
+    try "$examples/first.c" 4 campaign --count 0
+    try "$examples/first.c" 4 campaign --count 1000001
+    try "$examples/first.c" 4 campaign --first 18446744073709551615 --count 2
+    try "$examples/first.c" 4 campaign --steps 4001
+    try "$examples/first.c" 4 campaign --workers 65
+    try "$examples/first.c" 4 campaign --seed 1
+    try "$examples/first.c" 4 run --count 1
+}
+
+# Runs a trial twice, which prints the same: the number that its ring is made from, the size, the status that is wanted, and more words.
+try_trial() {
+    number=$1
+    size=$2
+    status=$3
+    shift 3
+    try /dev/null "$status" trial --number "$number" --size "$size" "$@"
+    try /dev/null "$status" trial --number "$number" --size "$size" "$@"
+}
+
+try_trials() {
+    wants <<'END'
+campaign 1 first 0 count 50 steps 4000
+done 50 0
+bound 0 -
+race 0 -
+assert 0 -
+fault 0 -
+local 0 -
+deadlock 0 -
+outputs 1
+50 36330a
+END
+    try_trial 0 64 0 --count 50
+    try_trial 0 64 0 --count 50 --workers 1
+    try_trial 0 64 0 --count 50 --workers 64
+    wants <<'END'
+campaign 1 first 0 count 50 steps 4000
+done 0 -
+bound 0 -
+race 50 0
+assert 0 -
+fault 0 -
+local 0 -
+deadlock 0 -
+outputs 1
+50 -
+END
+    try_trial 1 64 1 --count 50
+    wants <<'END'
+campaign 1 first 0 count 2 steps 3
+done 0 -
+bound 2 0
+race 0 -
+assert 0 -
+fault 0 -
+local 0 -
+deadlock 0 -
+outputs 1
+2 -
+END
+    try_trial 0 1 2 --count 2 --steps 3
+    "$program" trial --size 1 --count 2 --steps 3 <&- >"$room/written" 2>"$room/said"
+    judge 'trial, standard input closed' $? 2
+    {
+        "$program" trial --size 1 --count 2 --steps 3 >"$room/written" 2>"$room/said"
+        ended=$?
+        cat >"$room/left"
+    } <"$examples/first.c"
+    judge 'trial before another reader' $ended 2
+    wants <"$examples/first.c"
+    mv "$room/left" "$room/written"
+    judge 'trial as it leaves the input' 0 0
+    wants_usage
+    try "$examples/first.c" 4 trial --size 0
+    try "$examples/first.c" 4 trial --size 201
+    try "$examples/first.c" 4 trial --steps 10000
+    try "$examples/first.c" 4 trial --first 18446744073709551615 --count 2
 }
 
 # The command of each example's first comment, and what that says of it.
@@ -210,6 +356,8 @@ try_all() {
     try_unread
     try_read_faults
     try_write_faults
+    try_campaigns
+    try_trials
     try_examples
 }
 

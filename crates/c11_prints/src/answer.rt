@@ -3,6 +3,7 @@ use super::streams::Streams;
 use c11_commands::c11t;
 use c11_io::{MemSink, MemSource, OpenGate, read_all};
 use std::alloc::{AllocError, Global};
+use std::thread::Threads;
 
 /// What the program answered to a command line, and whether it left the source as it was.
 #[derive(Drop)]
@@ -13,7 +14,8 @@ pub struct Answer {
 }
 
 /// What the program answers to the words of a command line, the first of which is its own name, where the source holds this text.
-pub fn answer_to(
+pub fn answer_to<R: Threads + Sync>(
+    rt: &R,
     alloc: Global,
     words: &str,
     text: &str,
@@ -30,7 +32,7 @@ pub fn answer_to(
         |_| AllocError,
     )?;
     let status = c11t(
-        &(),
+        rt,
         alloc,
         words.as_slice(),
         &mut source,

@@ -1,10 +1,10 @@
 //! The texts of programs, and the rows over them.
 use super::answer::answer_to;
-use super::head::threads_text;
 use super::line::{Call, Line, read};
 use super::streams::Streams;
 use c11_tables::Part;
 use std::alloc::{AllocError, Global};
+use std::thread::Threads;
 
 /// The text of a program, and the calls over it whose prints are being compared.
 #[derive(Drop)]
@@ -38,8 +38,9 @@ impl Case {
     /// Takes a line, and answers what is found where a row that it ends, or that it is, does not hold.
     ///
     /// Calls on lines one below the other have one print, that of the lines behind them.
-    pub fn take(
+    pub fn take<R: Threads + Sync>(
         &mut self,
+        rt: &R,
         alloc: Global,
         part: &mut Option<Part>,
         line: &str,
@@ -58,25 +59,25 @@ impl Case {
                 let _ = part.next();
             }
         }
-        self.take_said(alloc, said, line, &mut found)?;
+        self.take_said(rt, alloc, said, &mut found)?;
         Ok(found)
     }
 
     /// Whether no line of the prints that are being compared can follow.
     fn is_settled_by(&self, said: &Line<'_>) -> bool {
         match said {
-            Line::Printed(_) | Line::Cut(_) => false,
+            Line::Printed(_) | Line::Cut(_) | Line::Sums(_) => false,
             Line::Space | Line::Text(_) => true,
             _ => !self.wanted.is_empty(),
         }
     }
 
     /// Takes what a line says.
-    fn take_said(
+    fn take_said<R: Threads + Sync>(
         &mut self,
+        rt: &R,
         alloc: Global,
         said: Line<'_>,
-        line: &str,
         found: &mut String,
     ) -> Result<(), AllocError> {
         match said {
@@ -86,17 +87,17 @@ impl Case {
             Line::Source(source) => self.streams.source = source,
             Line::Sink(sink) => self.streams.sink = sink,
             Line::Room(room) => self.streams.room = room,
-            Line::Call(call) => self.call(alloc, call, found)?,
-            Line::Runs(runs) => runs.run(alloc, self.text.as_str(), found)?,
-            Line::Threads(seed, steps) => {
-                let printed = threads_text(alloc, self.text.as_str(), seed, steps)?;
-                self.compare(alloc, line, printed)?;
-            }
+            Line::Call(call) => self.call(rt, alloc, call, found)?,
+            Line::Runs(runs) => runs.run(rt, alloc, self.text.as_str(), found)?,
             Line::Printed(text) => {
                 self.wanted.push_str(text)?;
                 self.wanted.push('\n')?;
             }
             Line::Cut(text) => self.wanted.push_str(text)?,
+            Line::Sums(seeds) => {
+                let summary = seeds.summary(rt, alloc, self.text.as_str())?;
+                self.wanted.push_str(summary.as_str())?;
+            }
         }
         Ok(())
     }
@@ -126,13 +127,14 @@ impl Case {
     }
 
     /// Calls the program over the text. The streams that were set are those of this call alone.
-    fn call(
+    fn call<R: Threads + Sync>(
         &mut self,
+        rt: &R,
         alloc: Global,
         call: Call<'_>,
         found: &mut String,
     ) -> Result<(), AllocError> {
-        let answer = answer_to(alloc, call.words, self.text.as_str(), self.streams)?;
+        let answer = answer_to(rt, alloc, call.words, self.text.as_str(), self.streams)?;
         self.streams = Streams::OPEN;
         if answer.status != call.status {
             writeln!(found, "{} ends with status {}", call.words, answer.status)?;
@@ -140,14 +142,9 @@ impl Case {
         if call.leaves && !answer.is_unread {
             writeln!(found, "{} reads the source", call.words)?;
         }
-        self.compare(alloc, call.words, answer.printed)
-    }
-
-    /// One more print to be compared with the lines that follow.
-    fn compare(&mut self, alloc: Global, row: &str, printed: Vec<u8>) -> Result<(), AllocError> {
         self.prints.push(Print {
-            row: String::from_str(alloc, row)?,
-            printed,
+            row: String::from_str(alloc, call.words)?,
+            printed: answer.printed,
         })?;
         Ok(())
     }

@@ -20,10 +20,10 @@ pub enum Line<'a> {
     Call(Call<'a>),
     /// Runs of many seeds.
     Runs(Runs<'a>),
-    /// A run with this seed and bound under the head of the command `threads`, which has no reading yet.
-    Threads(u64, u32),
     /// One more line that is printed.
     Printed(&'a str),
+    /// What is printed is the summary of these runs.
+    Sums(Seeds),
     /// The beginning of one, where what is printed is cut off.
     Cut(&'a str),
 }
@@ -45,6 +45,14 @@ pub struct Runs<'a> {
     pub wanted: Wanted<'a>,
 }
 
+/// The seeds of a campaign, from the first on, and the bound on the steps of each run.
+#[derive(Clone, Copy)]
+pub struct Seeds {
+    pub first: u64,
+    pub count: u64,
+    pub steps: u32,
+}
+
 /// What a print is to have.
 #[derive(Clone, Copy)]
 pub enum Wanted<'a> {
@@ -57,16 +65,16 @@ pub enum Wanted<'a> {
 impl Line<'_> {
     /// Whether it is one of the rows that are counted.
     pub fn is_row(&self) -> bool {
-        matches!(self, Line::Call(_) | Line::Runs(_) | Line::Threads(..))
+        matches!(self, Line::Call(_) | Line::Runs(_))
     }
 }
 
 /// What the line says, where it says something.
 ///
-/// Two spaces stand before a line of a text, `> ` before one that is printed, and `>> ` before the beginning of one. Rows are
-/// `c11t WORDS = STATUS`, with `unread` behind it where the source is left, `ends FIRST LAST = STATUS WORDS`,
-/// `has FIRST LAST = STATUS COUNT WORDS` and `threads SEED STEPS`. `pad BYTES` makes a text so long; `reads BYTES CALL`,
-/// `writes BYTES CALL` and `room BYTES` say how the bytes of the next call pass.
+/// Two spaces stand before a line of a text, `> ` before one that is printed, and `>> ` before the beginning of one;
+/// `sums FIRST COUNT STEPS` stands for the lines that a campaign is to print. Rows are `c11t WORDS = STATUS`, with `unread` behind
+/// it where the source is left, `ends FIRST LAST = STATUS WORDS` and `has FIRST LAST = STATUS COUNT WORDS`. `pad BYTES` makes a
+/// text so long; `reads BYTES CALL`, `writes BYTES CALL` and `room BYTES` say how the bytes of the next call pass.
 pub fn read(line: &str) -> Option<Line<'_>> {
     if line.is_empty() || line.starts_with("# ") {
         return Some(Line::Space);
@@ -94,10 +102,7 @@ fn read_setting(line: &str) -> Option<Line<'_>> {
         "room" => Some(Line::Room(rest.parse().ok()?)),
         "reads" => Some(Line::Source(read_stream(rest)?)),
         "writes" => Some(Line::Sink(read_stream(rest)?)),
-        "threads" => {
-            let (seed, steps) = rest.split_once(' ')?;
-            Some(Line::Threads(seed.parse().ok()?, steps.parse().ok()?))
-        }
+        "sums" => Some(Line::Sums(read_seeds(rest)?)),
         _ => None,
     }
 }
@@ -107,6 +112,16 @@ fn read_stream(words: &str) -> Option<Stream> {
     Some(Stream {
         per_call: per_call.parse().ok()?,
         failing: failing.parse().ok()?,
+    })
+}
+
+fn read_seeds(words: &str) -> Option<Seeds> {
+    let (first, rest) = words.split_once(' ')?;
+    let (count, steps) = rest.split_once(' ')?;
+    Some(Seeds {
+        first: first.parse().ok()?,
+        count: count.parse().ok()?,
+        steps: steps.parse().ok()?,
     })
 }
 

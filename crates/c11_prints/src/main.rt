@@ -4,10 +4,10 @@
 
 mod answer;
 mod case;
-mod head;
 mod line;
 mod runs;
 mod streams;
+mod sums;
 
 use c11_tables::Part;
 use case::Case;
@@ -18,7 +18,7 @@ fn main(rt: HostRuntime) -> io::Result<()> {
     let mut case = Case::new(rt.alloc());
     for line in rt.lines(rt.alloc()) {
         let line = line?;
-        let found = case.take(rt.alloc(), &mut part, line.as_str())?;
+        let found = case.take(&rt, rt.alloc(), &mut part, line.as_str())?;
         print!(rt; "{found}")?;
         if let Some(begun) = Part::begun(rt.alloc(), line.as_str())? {
             if let Some(ended) = part {

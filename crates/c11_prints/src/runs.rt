@@ -4,13 +4,20 @@ use super::line::{Runs, Wanted};
 use super::streams::Streams;
 use std::alloc::{AllocError, Global};
 use std::str::from_utf8;
+use std::thread::Threads;
 
 impl Runs<'_> {
     /// Runs the text with each of the seeds, and finds those that do not end with the status or print what is wanted.
-    pub fn run(&self, alloc: Global, text: &str, found: &mut String) -> Result<(), AllocError> {
+    pub fn run<R: Threads + Sync>(
+        &self,
+        rt: &R,
+        alloc: Global,
+        text: &str,
+        found: &mut String,
+    ) -> Result<(), AllocError> {
         for seed in self.first..=self.last {
             let words = format!(in alloc; "c11t run --seed {seed}")?;
-            let answer = answer_to(alloc, words.as_str(), text, Streams::OPEN)?;
+            let answer = answer_to(rt, alloc, words.as_str(), text, Streams::OPEN)?;
             let printed = from_utf8(answer.printed.as_slice()).unwrap_or("");
             if answer.status != self.status || !self.wanted.is_met(alloc, printed)? {
                 writeln!(found, "seed {seed}, status {}: {printed}", answer.status)?;

@@ -45,6 +45,7 @@ fn row_found(
         "has the steps" => scene.begin(alloc, line),
         "offers what the plain program offers" => runs::offers(alloc, scene.text(), line),
         "prints" => runs::prints(alloc, scene.text(), line),
+        "prints for threads" => runs::threads(alloc, scene.text(), line),
         "draws" => runs::draws(alloc, scene.text(), line),
         _ => Ok(Some(String::from_str(alloc, "no such kind")?)),
     }

@@ -7,6 +7,7 @@ use c11_lower::lower;
 use c11_memory::Memory;
 use c11_num::NoMemory;
 use c11_plain::offered;
+use c11_report::{Head, Mode, execution_text};
 use c11_run::{Run, run};
 use c11_tables::{number, numbers};
 use std::alloc::{AllocError, Global};
@@ -138,6 +139,18 @@ fn printed(alloc: Global, bytes: &[u8]) -> Result<String, AllocError> {
     Ok(words)
 }
 
+/// What is found where these bytes are not the wanted ones, in which a backtick stands for the end of a line.
+fn compared_text(alloc: Global, found: &[u8], wanted: &str) -> Result<Option<String>, AllocError> {
+    let mut bytes = Vec::new(alloc);
+    for byte in wanted.as_bytes() {
+        bytes.push(if *byte == b'`' { b'\n' } else { *byte })?;
+    }
+    if found == bytes.as_slice() {
+        return Ok(None);
+    }
+    Ok(Some(printed(alloc, found)?))
+}
+
 /// `seed SEED bound STEPS prints TEXT`: what the run of the program prints. A backtick stands for the end of a line.
 pub fn prints(alloc: Global, text: &str, row: &str) -> Result<Option<String>, AllocError> {
     let Ok(checked) = accept(alloc, text.as_bytes()) else {
@@ -152,14 +165,37 @@ pub fn prints(alloc: Global, text: &str, row: &str) -> Result<Option<String>, Al
     let Ok(output) = run.output() else {
         return Err(AllocError);
     };
-    let mut bytes = Vec::new(alloc);
-    for byte in wanted.as_bytes() {
-        bytes.push(if *byte == b'`' { b'\n' } else { *byte })?;
-    }
-    if output.as_slice() == bytes.as_slice() {
-        return Ok(None);
-    }
-    Ok(Some(printed(alloc, output.as_slice())?))
+    compared_text(alloc, output.as_slice(), wanted)
+}
+
+/// The text of the run of the program under the head of the command `threads`, which has no reading yet.
+fn threads_text(
+    alloc: Global,
+    checked: &Checked,
+    seed: u64,
+    steps: u32,
+) -> Result<Vec<u8>, NoMemory> {
+    let run = run_of(alloc, checked, seed, steps)?;
+    let head = Head {
+        mode: Mode::Threads,
+        seed,
+        steps,
+    };
+    execution_text(alloc, checked, &head, run.entries.as_slice(), &run.verdict)
+}
+
+/// `seed SEED bound STEPS threads TEXT`: that text. A backtick stands for the end of a line.
+pub fn threads(alloc: Global, text: &str, row: &str) -> Result<Option<String>, AllocError> {
+    let Ok(checked) = accept(alloc, text.as_bytes()) else {
+        return Ok(Some(String::from_str(alloc, "the text is not accepted")?));
+    };
+    let Some((seed, bound, wanted)) = opening(row, "threads") else {
+        return Ok(Some(String::from_str(alloc, "cannot be read")?));
+    };
+    let Ok(text) = threads_text(alloc, &checked, seed, bound) else {
+        return Ok(Some(String::from_str(alloc, "no run")?));
+    };
+    compared_text(alloc, text.as_slice(), wanted)
 }
 
 /// Choices among so many, one after another, and how the memory stands then, in the words of a row.
