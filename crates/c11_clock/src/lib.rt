@@ -2,14 +2,16 @@
 #![tactic(auto)]
 
 ghost use Rattle.std.specs.Prelude.{◌≡◌, ◌<◌, ◌≤◌, ◌↔◌, IsTrue, IsOk, IfOk, max, length, replicate, slice_index, slice_set};
-ghost use Rattle.c11_clock.specs.Clocks.{joined};
+ghost use Rattle.c11_clock.specs.Clocks.{joined, HasBelow};
 
+mod steps;
 #[cfg(test)]
 mod tests;
 
 use smallvec::SmallVec;
 use std::alloc::Global;
 use std::marker::Model;
+pub use steps::Steps;
 
 /// There was no memory.
 #[derive(Clone, Copy, Debug, PartialEq, Eq)]
@@ -74,6 +76,15 @@ impl Clock {
     {
         join_into(self.numbers.as_mut_slice(), other.numbers.as_slice());
     }
+
+    /// Raises each thread's number to the larger of both clocks, and tells whether one was raised.
+    pub fn grow_to(&mut self, other: &Clock) -> bool
+        requires { length other.now ≡ length self.old }
+        ensures joined { self.new ≡ joined self.old other.now }
+        ensures raised { IsTrue result ↔ HasBelow self.old other.now }
+    {
+        grow_into(self.numbers.as_mut_slice(), other.numbers.as_slice())
+    }
 }
 
 fn join_into(mine: &mut [u32], theirs: &[u32])
@@ -83,4 +94,19 @@ fn join_into(mine: &mut [u32], theirs: &[u32])
     for i in 0..mine.len() {
         mine[i] = mine[i].max(theirs[i]);
     }
+}
+
+fn grow_into(mine: &mut [u32], theirs: &[u32]) -> bool
+    requires { length theirs.now ≡ length mine.old }
+    ensures joined { mine.new ≡ joined mine.old theirs.now }
+    ensures raised { IsTrue result ↔ HasBelow mine.old theirs.now }
+{
+    let mut raised = false;
+    for place in 0..mine.len() {
+        if mine[place] < theirs[place] {
+            mine[place] = theirs[place];
+            raised = true;
+        }
+    }
+    raised
 }

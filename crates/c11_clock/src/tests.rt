@@ -21,3 +21,16 @@ fn a_join_has_the_larger_number_of_each_thread(rt: HostRuntime) -> Result<(), Fa
     }
     Ok(())
 }
+
+#[test]
+fn growth_is_told_where_a_number_rose(rt: HostRuntime) -> Result<(), Fail> {
+    let mut mine = Clock::new(rt.alloc(), 2)?;
+    let mut theirs = Clock::new(rt.alloc(), 2)?;
+    mine.raise(1, 3);
+    theirs.raise(0, 2);
+    theirs.raise(1, 1);
+    assert!(rt; mine.grow_to(&theirs), "{mine:?}");
+    assert!(rt; mine.get(0) == 2 && mine.get(1) == 3, "{mine:?}");
+    assert!(rt; !mine.grow_to(&theirs), "{mine:?}");
+    Ok(())
+}

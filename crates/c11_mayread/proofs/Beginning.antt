@@ -1,6 +1,6 @@
 -- No event, and nothing made.
 use Rattle.std.proofs.Common.{◌≡◌, ℕ, [], Some}
-use Rattle.c11_events.specs.Events.{At, IsStore, stored_cell, loaded_cell}
+use Rattle.c11_events.specs.Events.{IsStore, stored_cell, loaded_cell}
 use Rattle.c11_events.specs.Chains.{ChainLawful}
 use Rattle.c11_events.proofs.Basics.{chain_head}
 use Rattle.c11_events.proofs.Level.{links_from}

@@ -321,7 +321,7 @@ module _ (events : List Event) (e : Event) (c : ChainLawful events) (all : Chain
     store_made = with_added number cell is None (sym (after_no e none)) m m_within old_stores
 
     pub store_can : CanAdd m (added number cell is None (sym (after_no e none)) m m_within old_stores)
-    store_can = record { larger = larger number cell is None (sym (after_no e none)) m m_within old_stores; goes_on = λ y after. let clash : None ≡ Some y = after in cc }
+    store_can = record { positive = omega (arith, number); larger = larger number cell is None (sym (after_no e none)) m m_within old_stores; goes_on = λ y after. let clash : None ≡ Some y = after in cc }
 
     s_within : Within store_made longer
     s_within = added_within number cell is None (sym (after_no e none)) m m_within old_stores
@@ -430,6 +430,7 @@ module _ (events : List Event) (e : Event) (c : ChainLawful events) (all : Chain
 
     pub both_can : WellMade read_made → CanAdd read_made (added number cell is (Some e.from) (sym (after_is e cell loads)) read_made r_within r_old)
     both_can well' = record {
+      positive = omega (arith, number);
       larger = larger number cell is (Some e.from) (sym (after_is e cell loads)) read_made r_within r_old;
       goes_on = λ y after. let both : Some e.from ≡ Some y = after in let same : e.from ≡ y = cc in
           subst (λ (z : ℕ). made.GoesOnFrom read_made (added number cell is (Some e.from) (sym (after_is e cell loads)) read_made r_within r_old) z) same (record {

@@ -1,5 +1,5 @@
 -- A further event keeps the facts those of the events.
-use Rattle.std.proofs.Common.{◌≡◌, ℕ, zero, suc, ◌<◌, ◌≤◌, ◌+◌, List, [], ◌∷◌, ◌++◌, Option, Some, None, slice_get, length, map, refl, sym, ap, ◌∙◌, subst, arith, inl, inr}
+use Rattle.std.proofs.Common.{◌≡◌, ℕ, zero, suc, ◌<◌, ◌≤◌, ◌+◌, List, [], ◌∷◌, ◌++◌, Option, Some, None, slice_get, length, map, max, refl, sym, ap, ◌∙◌, subst, arith, inl, inr}
 use Rattle.std.proofs.lemmas.List.{length-append}
 use Rattle.c11_num.specs.Ranges.{TypedNumber}
 use Rattle.c11_events.specs.declared.event.Event.{Event}
@@ -121,6 +121,7 @@ map_last (f ∷ events) e = ap (λ (l : List Event). textless f ∷ l) (map_last
 -- how the facts change with an event, where v is the value that it reads
 pub record IsNotedIn (old new : Facts) (e : Event) (v : TypedNumber) : Type 0 where
   pub threads : new.threads ≡ old.threads
+  pub top : new.top ≡ max old.top (e.thread + 1)
   pub happens : new.happens ≡ record old.happens { events = old.happens.events ++ textless e ∷ [] }
   pub order : (events : List Event) → tables.StandsFor old.order events → tables.StandsFor new.order (events ++ e ∷ [])
   pub same : AreSame old.order new.order
@@ -130,8 +131,8 @@ pub record IsNotedIn (old new : Facts) (e : Event) (v : TypedNumber) : Type 0 wh
   pub value : (events : List Event) → IsPastOf old events → e.from ≤ length events → v ≡ value_of events e.from
 
 module _ (old new : Facts) (e : Event) (v : TypedNumber) (n : IsNotedIn old new e v) where
-  pub still_past : (events : List Event) → IsPastOf old events → e.number ≡ suc (length events) → e.thread < old.threads → ReadsEarlier (events ++ e ∷ []) → IsPastOf new (events ++ e ∷ [])
-  still_past events past number thread reads = record {
+  pub still_past : (events : List Event) → IsPastOf old events → e.number ≡ suc (length events) → ReadsEarlier (events ++ e ∷ []) → IsPastOf new (events ++ e ∷ [])
+  still_past events past number reads = record {
     happens = ap (λ (t : Trace). t.events) n.happens ∙ (ap (λ (l : List Event). l ++ textless e ∷ []) past.happens ∙ sym (map_last events e));
     order = n.order events past.order;
     stores = noted_as by_store events e old.stores new.stores e.number number n.stores past.stores;
@@ -144,21 +145,27 @@ module _ (old new : Facts) (e : Event) (v : TypedNumber) (n : IsNotedIn old new 
           ∙ (get_last old.kept _ ∙ (λ i. Some (record { from = (last.1 i).from; seq_cst = is_seq_cst (last.1 i).kind; value = (new_value ∙ ap (λ (p : ℕ). value_of (events ++ e ∷ []) (suc p)) (sym last.0)) i })))
     ]);
     reads = reads;
-    within = λ a f at. let bound : f.thread < old.threads = elim (old_or_new events e a (λ g. g ≡ f) (record { event = f; is = at; holds = refl })) [
-      | inl le ↦ (let t = same_less events (e ∷ []) a (λ g. g ≡ f) le (record { event = f; is = at; holds = refl }) in past.within a f (t.is ∙ ap (λ (g : Event). Some g) t.holds))
-      | inr p ↦ subst (λ (g : Event). g.thread < old.threads) p.1 thread
-    ] in subst (λ (k : ℕ). f.thread < k) (sym n.threads) bound;
+    within = λ a f at. elim (old_or_new events e a (λ g. g ≡ f) (record { event = f; is = at; holds = refl })) [
+      | inl le ↦ (let t = same_less events (e ∷ []) a (λ g. g ≡ f) le (record { event = f; is = at; holds = refl }) in
+          let lt = past.within a f (t.is ∙ ap (λ (g : Event). Some g) t.holds) in omega (arith, n.top))
+      | inr p ↦ (let same = ap (λ (g : Event). g.thread) p.1 in omega (arith, n.top))
+    ];
+    least = λ bound all.
+        let before = past.least bound (λ a f at. all a f (event_more events (e ∷ []) a f at)) in
+        let last = all (suc (length events)) e (new_is events e) in
+        omega (arith, n.top);
   }
     where
       new_value : written e.kind v ≡ value_of (events ++ e ∷ []) (suc (length events))
       new_value = value_new events e v reads (n.value events past)
 
-  pub still_roomy : AreRoomy old (length old.kept) → e.number ≡ length old.kept + 1 → length old.kept < old.happens.room → AreRoomy new (length new.kept)
-  still_roomy r number space =
+  pub still_roomy : AreRoomy old (length old.kept) → e.thread < old.threads → e.number ≡ length old.kept + 1 → length old.kept < old.happens.room → AreRoomy new (length new.kept)
+  still_roomy r thread number space =
       let count : length new.kept ≡ e.number = ap (λ (l : List Kept). length l) n.kept ∙ (length-append old.kept _ ∙ sym number) in
       let room : new.happens.room ≡ old.happens.room = ap (λ (t : Trace). t.room) n.happens in
       record {
         threads = ap (λ (t : Trace). t.threads) n.happens ∙ (r.threads ∙ sym n.threads);
+        top = omega (arith, r.top, n.top, n.threads);
         order_threads = n.same.threads ∙ (r.order_threads ∙ sym n.threads);
         order_room = n.same.room ∙ (r.order_room ∙ sym room);
         stores = subst (λ (p : ℕ × ℕ). HasRoom p.0 p.1 new.stores) (λ i. (sym room i, sym count i)) (room_next old.happens.room (length old.kept) old.stores new.stores (stored_cell e.kind) e.thread e.number number n.stores r.stores);
@@ -169,8 +176,8 @@ module _ (old new : Facts) (e : Event) (v : TypedNumber) (n : IsNotedIn old new 
 pub no_reads : ReadsEarlier []
 no_reads cell l x load = absurd (no_event l (λ e. (loaded_cell e.kind ≡ Some cell) × (e.from ≡ x)) load)
 
-pub none_within : (threads a : ℕ) (e : Event) → event_at [] a ≡ Some e → e.thread < threads
-none_within threads a e at = absurd (no_event a (λ f. f ≡ e) (record { event = e; is = at; holds = refl }))
+pub none_within : (top a : ℕ) (e : Event) → event_at [] a ≡ Some e → e.thread < top
+none_within top a e at = absurd (no_event a (λ f. f ≡ e) (record { event = e; is = at; holds = refl }))
 
 pub read_store : (events : List Event) (e : Event) (cell : ℕ) → ReadsEarlier (events ++ e ∷ []) → loaded_cell e.kind ≡ Some cell → IsStore events cell e.from
 read_store events e cell reads loads =

@@ -9,10 +9,11 @@ use Rattle.c11_scorder.specs.Tables as tables
 use Rattle.c11_scorder.specs.Tables.{Tables, AreNoted, by_store, HasRoom, threads_of, cells_of}
 use Rattle.c11_mayread.specs.declared.kept.Kept.{Kept}
 
--- the threads; the events without texts; the order of the seq_cst events; the stores and the loads of each cell and thread; and of each
--- event what it read, whether it is seq_cst, and what it wrote
+-- the threads, and one more than the largest that has an event; the events without texts; the order of the seq_cst events; the stores and
+-- the loads of each cell and thread; and of each event what it read, whether it is seq_cst, and what it wrote
 pub record Facts : Type 0 where
   pub threads : ℕ
+  pub top : ℕ
   pub happens : Trace
   pub order : Tables
   pub stores : Notes
@@ -34,7 +35,8 @@ pub record IsPastOf (facts : Facts) (events : List Event) : Type 0 where
   pub count : length facts.kept ≡ length events
   pub kept : (place : ℕ) (e : Event) → slice_get events place ≡ Some e → slice_get facts.kept place ≡ Some (kept_of events (suc place) e)
   pub reads : ReadsEarlier events
-  pub within : (a : ℕ) (e : Event) → event_at events a ≡ Some e → e.thread < facts.threads
+  pub within : (a : ℕ) (e : Event) → event_at events a ≡ Some e → e.thread < facts.top
+  pub least : (bound : ℕ) → ((a : ℕ) (e : Event) → event_at events a ≡ Some e → e.thread < bound) → facts.top ≤ bound
 
 -- the further event can be noted
 pub record CanNote (facts : Facts) (events : List Event) (e : Event) : Type 0 where
@@ -53,6 +55,7 @@ pub record HaveSameCounts (old new : Facts) : Type 0 where
 -- there is room for the events to come
 pub record AreRoomy (facts : Facts) (noted : ℕ) : Type 0 where
   pub threads : facts.happens.threads ≡ facts.threads
+  pub top : facts.top ≤ facts.threads
   pub order_threads : threads_of facts.order ≡ facts.threads
   pub order_room : facts.order.room ≡ facts.happens.room
   pub stores : HasRoom facts.happens.room noted facts.stores

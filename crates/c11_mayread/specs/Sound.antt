@@ -5,7 +5,7 @@ use Rattle.c11_mayread.specs.declared.past.Past.TheInside as past
 use Rattle.c11_mayread.specs.Facts.{Facts, IsPastOf, AreRoomy}
 
 abbrev pub facts_of : past.Inside → Facts
-facts_of p = record { threads = p.threads; happens = p.happens; order = p.order; stores = p.stores; loads = p.loads; kept = p.kept.items }
+facts_of p = record { threads = p.threads; top = p.top; happens = p.happens; order = p.order; stores = p.stores; loads = p.loads; kept = p.kept.items }
 
 pub record IsSoundPast (p : past.Inside) : Type 0 where
   pub events : List Event

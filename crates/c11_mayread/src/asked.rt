@@ -1,5 +1,6 @@
 //! What an operation asks for when it reads an atomic cell.
-ghost use Rattle.std.specs.Prelude.{◌≡◌};
+ghost use Rattle.std.specs.Prelude.{◌≡◌, ◌↔◌, true, false, IsTrue};
+ghost use Rattle.c11_num.specs.Ranges.{TypedNumber};
 ghost use Rattle.c11_mayread.specs.Asks.{asked_of, stores_by};
 
 use c11_events::Op;
@@ -76,5 +77,27 @@ pub(crate) fn stores_by(writes: &Writes, value: CValue) -> bool
         Writes::Never => false,
         Writes::Always => true,
         Writes::Behind(expected) => value.number() == expected.number(),
+    }
+}
+
+/// Whether there is a value where the operation writes.
+pub(crate) fn may_store(writes: &Writes) -> bool
+    ensures { IsTrue result ↔ ((value : TypedNumber) × (stores_by writes.now value ≡ true)) }
+{
+    match writes {
+        Writes::Never => false,
+        Writes::Always => true,
+        Writes::Behind(_) => true,
+    }
+}
+
+/// Whether there is a value where the operation does not write.
+pub(crate) fn may_only_load(writes: &Writes) -> bool
+    ensures { IsTrue result ↔ ((value : TypedNumber) × (stores_by writes.now value ≡ false)) }
+{
+    match writes {
+        Writes::Never => true,
+        Writes::Always => false,
+        Writes::Behind(_) => true,
     }
 }

@@ -1,6 +1,6 @@
-//! Lists that grow within their room.
-ghost use Rattle.std.specs.Prelude.{◌≡◌, ◌<◌, ◌≤◌, ◌++◌, ◌∷◌, ◌+◌, [], ℕ, length, vec_capacity};
-ghost use Rattle.c11_latest.specs.Notes.{IsNoted};
+//! Lists that grow within their room, and searches among notes of events.
+ghost use Rattle.std.specs.Prelude.{◌≡◌, ◌<◌, ◌≤◌, ◌++◌, ◌∷◌, ◌+◌, [], ℕ, MatchOption, length, vec_capacity};
+ghost use Rattle.c11_latest.specs.Notes.{IsNoted, HasNoneUpTo, IsLastUpTo};
 ghost use Rattle.c11_scorder.specs.Tables.{noted_at};
 ghost use Rattle.c11_mograph.specs.Made.{list_of};
 
@@ -39,5 +39,18 @@ pub(crate) fn note_at(latest: &mut Latest, cell: Option<u32>, thread: u32, numbe
     match cell {
         Some(cell) => latest.note(cell, thread, number),
         None => {}
+    }
+}
+
+/// The largest number up to the bound that is noted of the cell and the thread. No event has the number 0, so up to that nothing is
+/// searched for.
+pub(crate) fn last_up_to(latest: &Latest, cell: u32, thread: u32, bound: u32) -> Option<u32>
+    requires { (c t y : ℕ) → IsNoted latest.now.notes c t y → 0 < y }
+    ensures { MatchOption result (HasNoneUpTo latest.now.notes cell thread bound) (IsLastUpTo latest.now.notes cell thread bound) }
+{
+    if bound == 0 {
+        None
+    } else {
+        latest.last_up_to(cell, thread, bound)
     }
 }

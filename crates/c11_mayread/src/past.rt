@@ -11,7 +11,7 @@ ghost use Rattle.c11_mayread.specs.Priors.{IsNextOf, ArePriors, AddsPriorsBy, Kn
 
 use crate::kept::Kept;
 use crate::kinds::{no_value, written};
-use crate::lists::{note_at, put, put_some};
+use crate::lists::{last_up_to, note_at, put, put_some};
 use c11_clock::Clock;
 use c11_events::Event;
 use c11_happens::Happens;
@@ -29,6 +29,8 @@ use std::marker::Model;
 #[derive(Drop)]
 pub(crate) struct Past {
     threads: u32,
+    // One more than the largest thread that has an event. No thread from there on is asked for prior stores.
+    top: u32,
     happens: Happens,
     order: ScOrder,
     stores: Latest,
@@ -62,6 +64,7 @@ impl Past {
     {
         Ok(Past {
             threads,
+            top: 0,
             happens: Happens::open(alloc, threads, events)?,
             order: ScOrder::open(alloc, cells, threads, events)?,
             stores: Latest::open(alloc, events)?,
@@ -82,6 +85,7 @@ impl Past {
             value: written(&event.kind, self.value(event.from)),
         };
         put(&mut self.kept, kept);
+        self.top = self.top.max(event.thread + 1);
         note_at(
             &mut self.stores,
             event.kind.stored_cell(),
@@ -151,7 +155,7 @@ impl Past {
     fn last_read(&self, cell: u32, of: u32, number: u32) -> Option<u32>
         ensures { (events : List Event) → IsPastOf self.now events → IsLastRead events cell of number result }
     {
-        match self.loads.last_up_to(cell, of, number) {
+        match last_up_to(&self.loads, cell, of, number) {
             Some(load) => Some(self.kept[load as usize - 1].from),
             None => None,
         }
@@ -194,7 +198,7 @@ impl Past {
         fences_decide();
         answers_decide();
         let known = self.known(thread, of);
-        let store = self.stores.last_up_to(cell, of, known);
+        let store = last_up_to(&self.stores, cell, of, known);
         let read = self.last_read(cell, of, known);
         let fenced = self.before_fence_of(thread, cell, of);
         let answered = self.before_own_fence(cell, of, seq_cst);
@@ -213,7 +217,7 @@ impl Past {
         ensures capacity { vec_capacity priors.old ≤ vec_capacity priors.new }
         ensures priors { (events : List Event) (e : Event) → IsPastOf self.now events → IsNextOf thread seq_cst e → ArePriors events e cell false priors.new.items }
     {
-        for of in 0..self.threads {
+        for of in 0..self.top {
             self.list_priors_of(of, thread, cell, seq_cst, priors);
         }
     }

@@ -7,12 +7,13 @@ ghost use Rattle.c11_events.specs.HappensBefore.{HappensBefore};
 ghost use Rattle.c11_events.specs.Values.{value_of};
 ghost use Rattle.c11_events.specs.Offered.{op_cell, op_reading, IsChainOffered, ChainOffered, IsRisingList, Offered};
 ghost use Rattle.c11_happens.specs.Covers.{UpTo, CoversExactly, HasNoEvent, IsLastOf, IsCreateOf};
+ghost use Rattle.c11_mayread.specs.Asks.{stores_by};
 ghost use Rattle.c11_mayread.specs.Standing.{Words, StandsFor, CanCommit, HaveSameCounts, IsReady, cells_of, threads_of, room_of, committed};
 ghost use Rattle.c11_mayread.specs.Choosing.{MayFollow, IsAskedAt};
 ghost use Rattle.c11_mayread.specs.Listed.{PriorReads, PriorWrites};
 ghost use Rattle.c11_mayread.specs.Priors.{IsNextOf, ListsPriors};
 
-use crate::asked::{Asked, asked_of, stores_by};
+use crate::asked::{Asked, asked_of, may_only_load, may_store, stores_by};
 use crate::linking::link_event;
 use crate::past::Past;
 use c11_clock::Clock;
@@ -80,6 +81,27 @@ impl Reads {
         Ok(priors)
     }
 
+    // The same where they are needed; else none, which takes no memory.
+    fn priors_if(
+        &self,
+        needed: bool,
+        thread: u32,
+        cell: u32,
+        seq_cst: bool,
+        stores: bool,
+    ) -> Result<Vec<u32>, NoMemory>
+        requires thread { thread < threads_of self.now }
+        requires cell { cell < cells_of self.now }
+        ensures needed { IfOk result (λ priors. needed ≡ true → (events : List Event) → StandsFor self.now events → ListsPriors events thread cell seq_cst stores priors.items) }
+        ensures none { IfOk result (λ priors. needed ≡ false → priors.items ≡ []) }
+    {
+        if needed {
+            self.priors(thread, cell, seq_cst, stores)
+        } else {
+            Ok(Vec::new(*self.priors.allocator()))
+        }
+    }
+
     /// Stores of the cell that must not follow what a next load of the thread with this order reads: each one that must not is one of
     /// these or must precede one. So each other one that must precede what is read reaches one of these, or what is read, already.
     pub fn prior_read(&self, thread: u32, cell: u32, order: Order) -> Result<Offers, NoMemory>
@@ -116,13 +138,14 @@ impl Reads {
         }
     }
 
-    // Whether x is offered to what is asked, by the priors of a store and those of a load.
+    // Whether x is offered to what is asked, by the priors of a store where it writes behind x, and those of a load where it does not.
     fn is_offered(&self, asked: &Asked, as_store: &[u32], as_load: &[u32], x: u32) -> bool
         requires cell { asked.now.cell < cells_of self.now }
         requires store { 0 < x }
         requires noted { x ≤ committed self.now }
         ensures { (events : List Event) (e : Event) → StandsFor self.now events → IsStore events asked.now.cell x → e.from ≡ x → IsAskedAt asked.now events e.kind x
-            → ListsPriors events e.thread asked.now.cell asked.now.seq_cst_store true as_store.now → ListsPriors events e.thread asked.now.cell asked.now.seq_cst_load false as_load.now
+            → (stores_by asked.now.writes (value_of events x) ≡ true → ListsPriors events e.thread asked.now.cell asked.now.seq_cst_store true as_store.now)
+            → (stores_by asked.now.writes (value_of events x) ≡ false → ListsPriors events e.thread asked.now.cell asked.now.seq_cst_load false as_load.now)
             → IsTrue result ↔ ChainLawful (events ++ e ∷ []) }
     {
         last_store_decides();
@@ -145,11 +168,13 @@ impl Reads {
         ensures { IfOk result (λ offers. (events : List Event) (reading : ℕ → EventKind) → StandsFor self.now events → ((x : ℕ) → IsAskedAt asked.now events (reading x) x)
             → IsRisingList (IsChainOffered events thread reading asked.now.cell) offers.items) }
     {
-        let as_store = self.priors(thread, asked.cell, asked.seq_cst_store, true)?;
-        let as_load = self.priors(thread, asked.cell, asked.seq_cst_load, false)?;
-        let stores = self.graph.stores(asked.cell);
+        let stores = may_store(&asked.writes);
+        let as_store = self.priors_if(stores, thread, asked.cell, asked.seq_cst_store, true)?;
+        let loads = may_only_load(&asked.writes);
+        let as_load = self.priors_if(loads, thread, asked.cell, asked.seq_cst_load, false)?;
+        let candidates = self.graph.stores(asked.cell);
         let mut offers = Vec::new(*self.priors.allocator());
-        for x in stores {
+        for x in candidates {
             if self.is_offered(asked, as_store.as_slice(), as_load.as_slice(), *x) {
                 offers.push(*x)?;
             }

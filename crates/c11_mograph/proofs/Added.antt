@@ -1,25 +1,29 @@
 -- A graph with a store more.
-use Rattle.std.proofs.Common.{◌≡◌, ℕ, ◌<◌, ◌+◌, ◌*◌, ◌↔◌, List, [], ◌∷◌, ◌++◌, Some, None, Option, Bool, true, false, IsTrue, length, slice_get, nat_eq, sym, ap, ◌∙◌, subst, refl, arith, length-append, add-one, append-nil, append_assoc, if◌then◌else◌, ◌⊎◌, inl, inr}
+use Rattle.std.proofs.Common.{◌≡◌, ℕ, ◌<◌, ◌+◌, ◌↔◌, List, [], ◌∷◌, ◌++◌, Some, None, Option, Bool, true, false, IsTrue, length, slice_get, nat_eq, sym, ap, ◌∙◌, subst, refl, arith, length-append, add-one, append-nil, append_assoc, if◌then◌else◌, ◌⊎◌, inl, inr, ◌≤◌, max, slice_set, slice_index}
 use Rattle.std.proofs.lemmas.Option.{slice_get_within, slice_get_cases}
 use Rattle.std.proofs.lemmas.Bool.{eq-eqb}
 use Rattle.std.proofs.lemmas.Bool.Decides.{eqb_tells}
+use Rattle.std.proofs.lemmas.List.{get_or-set_same, get_or-set_other}
 use Rattle.std.specs.Global.{Vec}
 use native.Mathlib.Decide.{ℕ_discrete}
 use mathlib.Core.Logic.{dite}
-use Rattle.c11_events.specs.Closure.{one, join}
-use Rattle.c11_events.proofs.Prefix.{closure_map, get_more}
+use Rattle.c11_events.proofs.Prefix.{get_more}
 use Rattle.c11_events.proofs.Longer.{get_last}
 use Rattle.c11_mograph.specs.declared.kept.Kept.{Kept}
-use Rattle.c11_mograph.specs.Table.{bit_of}
-use Rattle.c11_mograph.specs.Made.{Store, Made, IsAdded, GoesOn, Chain, here, next, IsPair, Link, Links, Ordered, CanAdd, stores_of}
-use Rattle.c11_mograph.specs.Words.{Words, WellMade, IsKept, StandsFor}
-use Rattle.c11_mograph.specs.Parts.{IsChained, Marks, Pushes}
-use Rattle.c11_mograph.proofs.Chains.{chain_head, added_more, added_last, added_cases, chain_more, chain_less}
-use Rattle.c11_mograph.proofs.Found.{store_at, rising, number_at, chain_at}
+use Rattle.c11_mograph.specs.Spread.{Table, row, number_in, with_number, IsSpread}
+use Rattle.c11_mograph.specs.Clocks.{IsInto, IsLargest, IsGrownAt, OwnInOrder}
+use Rattle.c11_mograph.specs.Made.{Store, Made, IsAdded, GoesOn, Chain, here, next, Links, CanAdd, stores_of, previous, number_of}
+use Rattle.c11_mograph.specs.Words.{Words, WellMade, IsKept, Tracks}
+use Rattle.c11_mograph.specs.Parts.{AreSized, SpreadsFrom, NotesStore, IsChained, Marks, Pushes}
+use Rattle.c11_mograph.proofs.Chains.{chain_head, added_more, added_last, chain_more}
+use Rattle.c11_mograph.proofs.Found.{store_at, rising, number_at, chain_at, head_at, same_number, kept_there}
+use Rattle.c11_mograph.proofs.Longer.{larger, links_less, links_longer, links_first, links_last, goes_cases, after_earlier, longer_well}
+use Rattle.c11_mograph.proofs.Clocked.{largest_either, largest_same, largest_none}
+use Rattle.c11_mograph.proofs.Owning.{into_longer_less, into_longer_keeps, into_longer_new}
+use Rattle.c11_mograph.proofs.Spreading.{all_raised, fresh_spread, spread_always}
+use Rattle.c11_mograph.proofs.Tables.{row_at, row_else}
 use Rattle.c11_mograph.proofs.Places.{more_at}
-
-added_map : (stores : List Store) (x : ℕ) (P Q : Store → Type 0) → ((t : Store) → P t → Q t) → IsAdded stores x P → IsAdded stores x Q
-added_map stores x P Q f t = record { place = t.place; store = t.store; is = t.is; number = t.number; holds = f t.store t.holds }
+use Rattle.c11_mograph.proofs.Previous.{lasts_longer}
 
 pub stores_of_more : (cell : ℕ) (stores : List Store) (s : Store) → stores_of cell (stores ++ s ∷ []) ≡ stores_of cell stores ++ stores_of cell (s ∷ [])
 stores_of_more cell [] s = refl
@@ -37,107 +41,13 @@ module _ (made : Made) (well : WellMade made) (s : Store) (can : CanAdd made s) 
   abbrev after : Made
   after = record made { stores = made.stores ++ s ∷ [] }
 
-  pub larger : (x : ℕ) (P : Store → Type 0) → IsAdded stores x P → x < s.number
-  larger x P t = omega (arith, can.larger t.place t.store t.is, t.number)
-
-  less_chain : (h i x : ℕ) → x < s.number → Chain longer h i x → Chain stores h i x
-  less_chain = chain_less stores s larger well.earlier
-
-  -- the members of a pair are old stores
-  pair_first : (a b : ℕ) → IsPair made.pairs a b → a < s.number
-  pair_first a b p = let t = well.paired a b p in larger a (λ u. IsAdded stores b (λ v. u.cell ≡ v.cell)) t
-
-  pair_second : (a b : ℕ) → IsPair made.pairs a b → b < s.number
-  pair_second a b p = let t = well.paired a b p in larger b (λ v. t.store.cell ≡ v.cell) t.holds
-
-  link_less : (h k : ℕ) → Link after h k → Link made h k
-  link_less h k l = record {
-    differ = l.differ;
-    a = l.a;
-    b = l.b;
-    i = l.i;
-    j = l.j;
-    first = less_chain h l.i l.a (pair_first l.a l.b l.pair) l.first;
-    second = less_chain k l.j l.b (pair_second l.a l.b l.pair) l.second;
-    pair = l.pair;
-  }
-
-  pub links_less : (h k : ℕ) → Links after h k → Links made h k
-  links_less = closure_map (Link after) (Link made) link_less
-
-  pub links_longer : (h k : ℕ) → Links made h k → Links after h k
-  links_longer = closure_map (Link made) (Link after) (λ h k l. record {
-    differ = l.differ;
-    a = l.a;
-    b = l.b;
-    i = l.i;
-    j = l.j;
-    first = chain_more stores s h l.i l.a l.first;
-    second = chain_more stores s k l.j l.b l.second;
-    pair = l.pair;
-  })
-
-  -- links lead between old heads
-  pub links_first : (h k : ℕ) → Links made h k → h < s.number
-  links_first h k (one l) = larger h (λ t. t.after ≡ None) (chain_head stores h l.i l.a l.first)
-  links_first h k (join {b = m} v w) = links_first h m v
-
-  pub links_last : (h k : ℕ) → Links made h k → k < s.number
-  links_last h k (one l) = larger k (λ t. t.after ≡ None) (chain_head stores k l.j l.b l.second)
-  links_last h k (join {b = m} v w) = links_last m k w
-
-  after_earlier : (y : ℕ) → s.after ≡ Some y → IsAdded stores y (λ t. y < s.number)
-  after_earlier y e = let t = (can.goes_on y e).of_cell in
-      record { place = t.place; store = t.store; is = t.is; number = t.number; holds = larger y (λ u. u.cell ≡ s.cell) t }
-
-  pub still_ordered : Ordered after
-  still_ordered = record {
-    acyclic = λ h l. well.ordered.acyclic h (links_less h h l);
-    ranked = λ a b h i j p left right. well.ordered.ranked a b h i j p (less_chain h i a (pair_first a b p) left) (less_chain h j b (pair_second a b p) right);
-  }
-
-  pub goes_cases : (b y : ℕ) → GoesOn longer b y → GoesOn stores b y ⊎ ((s.number ≡ b) × (s.after ≡ Some y))
-  goes_cases b y g = added_cases stores s b (λ t. t.after ≡ Some y) g
-
-  pub longer_well : WellMade after
-  longer_well = record {
-    rises = λ i j t u at at' lt. elim (more_at stores i s t at) [
-      | inl old ↦ elim (more_at stores j s u at') [
-        | inl old' ↦ well.rises i j t u old old' lt
-        | inr new ↦ omega (arith, can.larger i t old, ap (λ (v : Store). v.number) new.1)
-      ]
-      | inr new ↦ elim (more_at stores j s u at') [
-        | inl old' ↦ absurd (omega (arith, slice_get_within stores j u old', new.0))
-        | inr new' ↦ absurd (omega (arith, new.0, new'.0))
-      ]
-    ];
-    earlier = λ b y g. elim (goes_cases b y g) [
-      | inl old ↦ added_more stores s y (λ t. y < b) (well.earlier b y old)
-      | inr new ↦ added_more stores s y (λ t. y < b) (added_map stores y (λ t. y < s.number) (λ t. y < b) (λ t lt. omega (arith, new.0)) (after_earlier y new.1))
-    ];
-    once = λ b c y g g'. elim (goes_cases b y g) [
-      | inl old ↦ elim (goes_cases c y g') [
-        | inl old' ↦ well.once b c y old old'
-        | inr new ↦ absurd ((can.goes_on y new.1).last b old)
-      ]
-      | inr new ↦ elim (goes_cases c y g') [
-        | inl old' ↦ absurd ((can.goes_on y new.1).last c old')
-        | inr new' ↦ sym new.0 ∙ new'.0
-      ]
-    ];
-    paired = λ a b p. let t = well.paired a b p in
-        added_more stores s a (λ u. IsAdded longer b (λ v. u.cell ≡ v.cell))
-        (added_map stores a (λ u. IsAdded stores b (λ v. u.cell ≡ v.cell)) (λ u. IsAdded longer b (λ v. u.cell ≡ v.cell)) (λ u w. added_more stores s b (λ v. u.cell ≡ v.cell) w) t);
-    ordered = still_ordered;
-  }
-
-  module _ (words marked new : Words) (stands : StandsFor words made) (head rank : ℕ) (chained : IsChained words s.after head rank)
+  module _ (words marked new : Words) (stands : Tracks words made) (leads_on : OwnInOrder made) (head rank : ℕ) (chained : IsChained words s.after head rank)
       (begins : s.after ≡ None → marked ≡ words) (marks : (y : ℕ) → s.after ≡ Some y → Marks words marked y)
-      (rest : marked ≡ record words { kept = marked.kept }) (count : length marked.kept ≡ length words.kept) (each : length words.kept ≡ length words.numbers)
-      (room : length words.numbers < words.width * 64)
-      (pushes : Pushes marked new s.number (record { cell = s.cell; thread = s.thread; head = head; rank = rank; ends = true })) where
+      (rest : marked ≡ record words { kept = marked.kept }) (count : length marked.kept ≡ length words.kept) (sized : AreSized words)
+      (few : length words.numbers < length words.clocks.rows) (cell : s.cell < length words.lists) (thread : s.thread < words.threads)
+      (pushes : Pushes marked new s.number (record { cell = s.cell; thread = s.thread; head = head; rank = rank; older = 0; ends = true })) where
     abbrev own : Kept
-    own = record { cell = s.cell; thread = s.thread; head = head; rank = rank; ends = true }
+    own = record { cell = s.cell; thread = s.thread; head = head; rank = rank; older = pushes.older; ends = true }
 
     numbers_are : new.numbers ≡ words.numbers ++ s.number ∷ []
     numbers_are = pushes.numbers ∙ ap (λ (w : Words). w.numbers ++ s.number ∷ []) rest
@@ -145,11 +55,8 @@ module _ (made : Made) (well : WellMade made) (s : Store) (can : CanAdd made s) 
     lists_are : marked.lists ≡ words.lists
     lists_are = ap (λ (w : Words). w.lists) rest
 
-    bits_are : new.bits ≡ words.bits
-    bits_are = pushes.bits ∙ ap (λ (w : Words). w.bits) rest
-
-    width_is : new.width ≡ words.width
-    width_is = pushes.width ∙ ap (λ (w : Words). w.width) rest
+    clocks_are : new.clocks ≡ record { rows = words.clocks.rows; leads = words.clocks.leads ++ false ∷ [] }
+    clocks_are = pushes.clocks ∙ ap (λ (w : Words). record { rows = w.clocks.rows; leads = w.clocks.leads ++ false ∷ [] }) rest
 
     number_more : (i x : ℕ) → slice_get words.numbers i ≡ Some x → slice_get new.numbers i ≡ Some x
     number_more i x at = subst (λ (xs : List ℕ). slice_get xs i ≡ Some x) (sym numbers_are) (get_more words.numbers (s.number ∷ []) i x at)
@@ -165,7 +72,7 @@ module _ (made : Made) (well : WellMade made) (s : Store) (can : CanAdd made s) 
 
     kept_last : slice_get new.kept (length words.numbers) ≡ Some own
     kept_last = subst (λ (ks : List Kept). slice_get ks (length words.numbers) ≡ Some own) (sym pushes.all)
-        (subst (λ (n : ℕ). slice_get (marked.kept ++ own ∷ []) n ≡ Some own) (count ∙ each) (get_last marked.kept own))
+        (subst (λ (n : ℕ). slice_get (marked.kept ++ own ∷ []) n ≡ Some own) (count ∙ sized.each) (get_last marked.kept own))
 
     abbrev IsOld : ℕ → Store → Kept → Type 0
     IsOld i t k = (slice_get new.kept i ≡ Some k) × ((k.cell ≡ t.cell) × ((k.thread ≡ t.thread) × (IsTrue k.ends ↔ ((b : ℕ) → GoesOn longer b t.number → ⊥))))
@@ -177,7 +84,7 @@ module _ (made : Made) (well : WellMade made) (s : Store) (can : CanAdd made s) 
       -- a store that the new one does not go on from
       untouched : (s.after ≡ Some t.number → ⊥) → slice_get new.kept i ≡ Some is.kept → IsTrue is.kept.ends ↔ ((b : ℕ) → GoesOn longer b t.number → ⊥)
       untouched other kept = (
-        λ e b g. elim (goes_cases b t.number g) [ inl old ↦ is.ends.0 e b old | inr now ↦ other now.1 ],
+        λ e b g. elim (goes_cases made well s can b t.number g) [ inl old ↦ is.ends.0 e b old | inr now ↦ other now.1 ],
         λ none. is.ends.1 (λ b g. none b (added_more stores s b (λ u. u.after ≡ Some t.number) g)),
       )
 
@@ -232,9 +139,9 @@ module _ (made : Made) (well : WellMade made) (s : Store) (can : CanAdd made s) 
     -- nothing goes on from the new store
     own_ends : IsTrue true ↔ ((b : ℕ) → GoesOn longer b s.number → ⊥)
     own_ends = (
-      λ e b g. elim (goes_cases b s.number g) [
-        | inl old ↦ let t = well.earlier b s.number old in let lt = larger s.number (λ u. s.number < b) t in omega arith
-        | inr now ↦ let t = after_earlier s.number now.1 in let lt = t.holds in omega arith
+      λ e b g. elim (goes_cases made well s can b s.number g) [
+        | inl old ↦ let t = well.earlier b s.number old in let lt = larger made well s can s.number (λ u. s.number < b) t in omega arith
+        | inr now ↦ let t = after_earlier made well s can s.number now.1 in let lt = t.holds in omega arith
       ],
       λ none. refl,
     )
@@ -294,30 +201,251 @@ module _ (made : Made) (well : WellMade made) (s : Store) (can : CanAdd made s) 
         let none : stores_of cell (s ∷ []) ≡ [] = ap (λ (c : Bool). (if c then s.number ∷ [] else []) ++ []) apart in
         stands.lists cell b was ∙ (sym (append-nil (stores_of cell stores)) ∙ (ap (λ (xs : List ℕ). stores_of cell stores ++ xs) (sym none) ∙ sym (stores_of_more cell stores s))))
 
-    pub stands_longer : StandsFor new (record made { stores = made.stores ++ s ∷ [] })
-    stands_longer = record {
-      well = longer_well;
+    lasts_are : new.lasts ≡ with_number words.lasts s.cell s.thread s.number
+    lasts_are = pushes.lasts ∙ ap (λ (w : Words). with_number w.lasts s.cell s.thread s.number) rest
+
+    lasts : (cell thread : ℕ) → cell < length new.lists → thread < new.threads → number_in new.lasts cell thread ≡ number_of (previous longer cell thread)
+    lasts c t cell_in thread_in =
+        let within : s.cell < length words.lasts = omega (arith, cell, sized.lasts) in
+        ap (λ (xs : List (List ℕ)). number_in xs c t) lasts_are
+        ∙ lasts_longer made well s can words.threads (length words.lists) words.lasts within (omega (arith, thread, sized.wide_lasts s.cell within)) stands.lasts c t
+        (omega (arith, cell_in, pushes.lists.count, ap (λ (ls : List (Vec ℕ)). length ls) lists_are)) (omega (arith, thread_in, pushes.threads, ap (λ (w : Words). w.threads) rest))
+
+    -- no link leads on from where none is noted
+    fresh : (place x : ℕ) → slice_get new.numbers place ≡ Some x → slice_get new.clocks.leads place ≡ Some false → (y : ℕ) → Links after x y → ⊥
+    fresh place x at flag y w = elim (number_cases place x at) [
+      | inl old ↦ elim (more_at words.clocks.leads place false false (subst (λ (t : Table). slice_get t.leads place ≡ Some false) clocks_are flag)) [
+        | inl none ↦ stands.fresh place x old none y (links_less made well s can x y w)
+        | inr last ↦ omega (arith, last.0, slice_get_within words.numbers place x old, sized.leads)
+      ]
+      | inr now ↦ omega (arith, now.1, links_first made well s can x y (links_less made well s can x y w))
+    ]
+
+    -- what is kept keeps the longer list where the clocks are the largest
+    tracks_with : (rows : List (List ℕ)) → ((l y : ℕ) → slice_get new.numbers l ≡ Some y → (u : ℕ) → IsLargest (IsInto after u y) (number_in rows l u))
+        → ((l : ℕ) → length new.numbers ≤ l → (u : ℕ) → number_in rows l u ≡ 0) → Tracks (record new { clocks = record new.clocks { rows = rows } }) after
+    tracks_with rows exact clear = record {
+      well = longer_well made well s can;
       count = ap length numbers_are ∙ (length-append words.numbers (s.number ∷ []) ∙ (ap (λ (n : ℕ). n + 1) stands.count ∙ sym (length-append stores (s ∷ []))));
-      each = λ place store at. elim (more_at stores place s store at) [
-        | inl old ↦ old_kept place store old
-        | inr now ↦ subst (λ (u : Store). IsKept after new place u) now.1 (subst (λ (n : ℕ). IsKept after new n s) (stands.count ∙ sym now.0) own_kept)
-      ];
+      each = λ place store at. let k = each_kept place store at in
+          record { number = k.number; kept = k.kept; is = k.is; cell = k.cell; thread = k.thread; head = k.head; head_is = k.head_is; chain = k.chain; ends = k.ends };
       lists = list_of_cell;
-      reached = λ i j x y at at'. subst (λ (p : ℕ × List ℕ). (bit_of p.0 p.1 j i ≡ 1) ↔ Links after x y) (λ n. (sym width_is n, sym bits_are n)) (same_reached i j x y at at');
-      clear = λ row column out inner. subst (λ (p : ℕ × List ℕ). bit_of p.0 p.1 row column ≡ 0) (λ n. (sym width_is n, sym bits_are n))
-          (stands.clear row column (elim out [ inl o ↦ inl (omega (arith, o, more_numbers)) | inr o ↦ inr (omega (arith, o, more_numbers)) ]) (subst (λ (w : ℕ). column < w * 64) width_is inner));
+      lasts = lasts;
+      clocks = exact;
+      clear = clear;
+      fresh = fresh;
     }
       where
-        more_numbers : length new.numbers ≡ length words.numbers + 1
-        more_numbers = ap length numbers_are ∙ length-append words.numbers (s.number ∷ [])
-
-        same_reached : (i j x y : ℕ) → slice_get new.numbers i ≡ Some x → slice_get new.numbers j ≡ Some y → (bit_of words.width words.bits j i ≡ 1) ↔ Links after x y
-        same_reached i j x y at at' = elim (number_cases i x at) [
-          | inl old ↦ elim (number_cases j y at') [
-            | inl old' ↦ let r = stands.reached i j x y old old' in ((λ set. links_longer x y (r.0 set)), λ l. r.1 (links_less x y l))
-            | inr now ↦ let z = stands.clear j i (inl (omega (arith, now.0))) (let w = slice_get_within words.numbers i x old in omega arith) in
-                ((λ set. absurd (omega arith)), λ l. absurd (omega (arith, links_last x y (links_less x y l), now.1)))
-          ]
-          | inr now ↦ let z = stands.clear j i (inr (omega (arith, now.0))) (omega (arith, now.0)) in
-              ((λ set. absurd (omega arith)), λ l. absurd (omega (arith, links_first x y (links_less x y l), now.1)))
+        each_kept : (place : ℕ) (store : Store) → slice_get longer place ≡ Some store → IsKept after new place store
+        each_kept place store at = elim (more_at stores place s store at) [
+          | inl old ↦ old_kept place store old
+          | inr now ↦ subst (λ (u : Store). IsKept after new place u) now.1 (subst (λ (n : ℕ). IsKept after new n s) (stands.count ∙ sym now.0) own_kept)
         ]
+
+    more_numbers : length new.numbers ≡ length words.numbers + 1
+    more_numbers = ap length numbers_are ∙ length-append words.numbers (s.number ∷ [])
+
+    -- the head of the new store's chain
+    mine : (h : ℕ) × ((slice_get new.numbers head ≡ Some h) × Chain longer h rank s.number)
+    mine = own_chain s.after refl
+
+    abbrev k : ℕ
+    k = mine.0
+
+    -- the number at the new store's thread, and 0 at the others
+    abbrev n : ℕ → ℕ
+    n u = if nat_eq u s.thread then s.number else 0
+
+    abbrev New : ℕ → ℕ → Type 0
+    New u x = (x ≡ s.number) × (u ≡ s.thread)
+
+    largest : (u : ℕ) → IsLargest (New u) (n u)
+    largest u = elim (eqb_tells u s.thread) [
+      | inl t ↦ let e : n u ≡ s.number = ap (λ (b : Bool). if b then s.number else 0) t.0 in
+          record { bound = λ a p. omega (arith, e, p.0); met = inr (e, t.1) }
+      | inr f ↦ let e : n u ≡ 0 = ap (λ (b : Bool). if b then s.number else 0) f.0 in
+          record { bound = λ a p. absurd (f.1 p.1); met = inl e }
+    ]
+
+    less : (u y x : ℕ) → IsInto after u y x → IsInto made u y x ⊎ (((k ≡ y) ⊎ Links made k y) × New u x)
+    less = into_longer_less made well s can k rank mine.1.1
+
+    keeps : (u y x : ℕ) → IsInto made u y x → IsInto after u y x
+    keeps = into_longer_keeps made well s can k rank mine.1.1
+
+    more : (u y x : ℕ) → (k ≡ y) ⊎ Links made k y → New u x → IsInto after u y x
+    more u y x led new = subst (λ (z : ℕ). IsInto after u y z) (sym new.0) (subst (λ (z : ℕ). IsInto after z y s.number) (sym new.1) (into_longer_new made well s can k rank mine.1.1 y led))
+
+    -- nothing was into the new store's own place
+    none_into : (u x : ℕ) → IsInto made u s.number x → ⊥
+    none_into u x t = elim t.leads [
+      | inl e ↦ omega (arith, e, larger made well s can t.h (λ v. v.after ≡ None) (chain_head stores t.h t.i x t.chain))
+      | inr w ↦ omega (arith, links_last made well s can t.h s.number w)
+    ]
+
+    exact : (l y : ℕ) → slice_get new.numbers l ≡ Some y → (u : ℕ) → IsLargest (IsInto made u y) (number_in words.clocks.rows l u)
+    exact l y at u = elim (number_cases l y at) [
+      | inl old ↦ stands.clocks l y old u
+      | inr now ↦
+          let blank : 0 ≡ number_in words.clocks.rows l u = sym (stands.clear l (omega (arith, now.0)) u) in
+          subst (λ (m : ℕ). IsLargest (IsInto made u y) m) blank (largest_none (IsInto made u y) (λ x t. none_into u x (subst (λ (z : ℕ). IsInto made u z x) (sym now.1) t)))
+    ]
+
+    same_place : (i j x : ℕ) → slice_get new.numbers i ≡ Some x → slice_get new.numbers j ≡ Some x → i ≡ j
+    same_place i j x at at' = elim (number_cases i x at) [
+      | inl old ↦ elim (number_cases j x at') [
+        | inl old' ↦ same_number words made stands i j x old old'
+        | inr now ↦ let t = store_at words made stands i x old in absurd (omega (arith, can.larger i t.0 t.1.0, t.1.1, now.1))
+      ]
+      | inr now ↦ elim (number_cases j x at') [
+        | inl old' ↦ let t = store_at words made stands j x old' in absurd (omega (arith, can.larger j t.0 t.1.0, t.1.1, now.1))
+        | inr now' ↦ now.0 ∙ sym now'.0
+      ]
+    ]
+
+    kept_cases : (l y : ℕ) (e : Kept) → slice_get words.numbers l ≡ Some y → slice_get new.kept l ≡ Some e → IsAdded stores y (λ t. t.cell ≡ e.cell) × IsAdded stores y (λ t. t.thread ≡ e.thread)
+    kept_cases l y e at kept =
+        let t = store_at words made stands l y at in
+        let o = still_kept l t.0 t.1.0 s.after refl in
+        let both : Some o.0 ≡ Some e = sym o.1.0 ∙ kept in
+        let same : o.0 ≡ e = cc in (
+          record { place = l; store = t.0; is = t.1.0; number = t.1.1; holds = sym o.1.1.0 ∙ ap (λ (z : Kept). z.cell) same },
+          record { place = l; store = t.0; is = t.1.0; number = t.1.1; holds = sym o.1.1.1.0 ∙ ap (λ (z : Kept). z.thread) same },
+        )
+
+    cells : (l y : ℕ) (e : Kept) → slice_get new.numbers l ≡ Some y → slice_get new.kept l ≡ Some e → (u : ℕ) → 0 < number_in words.clocks.rows l u → IsAdded stores y (λ t. t.cell ≡ e.cell)
+    cells l y e at kept u some = elim (number_cases l y at) [
+      | inl old ↦ (kept_cases l y e old kept).0
+      | inr now ↦ absurd (let z = stands.clear l (omega (arith, now.0)) u in omega arith)
+    ]
+
+    abbrev mid : List (List ℕ)
+    mid = with_number words.clocks.rows head s.thread s.number
+
+    head_within : head < length words.clocks.rows
+    head_within = let w = slice_get_within new.numbers head mine.0 mine.1.0 in omega (arith, more_numbers, few)
+
+    at_head : (u : ℕ) → number_in mid head u ≡ max (number_in words.clocks.rows head u) (n u)
+    at_head u =
+        let old = row words.clocks.rows head in
+        let set = slice_set old s.thread (max (number_in words.clocks.rows head s.thread) s.number) in
+        ap (λ (r : List ℕ). slice_index r u) (row_at words.clocks.rows head set head_within) ∙ elim (eqb_tells u s.thread) [
+          | inl t ↦
+              let inside : s.thread < length old = omega (arith, sized.wide head head_within) in
+              let e : slice_index set s.thread ≡ max (number_in words.clocks.rows head s.thread) s.number = get_or-set_same old s.thread (max (number_in words.clocks.rows head s.thread) s.number) 0 inside in
+              let f : n u ≡ s.number = ap (λ (b : Bool). if b then s.number else 0) t.0 in
+              ap (λ (z : ℕ). slice_index set z) t.1 ∙ (e ∙ omega (arith, f, ap (λ (z : ℕ). number_in words.clocks.rows head z) t.1))
+          | inr f ↦
+              let e : slice_index set u ≡ slice_index old u = get_or-set_other old s.thread u (max (number_in words.clocks.rows head s.thread) s.number) 0 f.1 in
+              let z : n u ≡ 0 = ap (λ (b : Bool). if b then s.number else 0) f.0 in
+              e ∙ omega (arith, z)
+        ]
+
+    elsewhere : (l : ℕ) → (l ≡ head → ⊥) → row mid l ≡ row words.clocks.rows l
+    elsewhere l other = row_else words.clocks.rows head (slice_set (row words.clocks.rows head) s.thread (max (number_in words.clocks.rows head s.thread) s.number)) l other
+
+    -- a store that begins a chain
+    begun : s.after ≡ None → (l y : ℕ) → slice_get new.numbers l ≡ Some y → (u : ℕ) → IsLargest (IsInto after u y) (number_in mid l u)
+    begun e l y at u = dite (ℕ_discrete l head)
+        (λ (same : l ≡ head).
+        let y_is : k ≡ y = let both : Some k ≡ Some y = sym mine.1.0 ∙ (ap (λ (p : ℕ). slice_get new.numbers p) (sym same) ∙ at) in cc in
+        let e : max (number_in words.clocks.rows l u) (n u) ≡ number_in mid l u = subst (λ (p : ℕ). max (number_in words.clocks.rows p u) (n u) ≡ number_in mid p u) (sym same) (sym (at_head u)) in
+        subst (λ (m : ℕ). IsLargest (IsInto after u y) m) e
+        (largest_either (IsInto made u y) (New u) (IsInto after u y) (number_in words.clocks.rows l u) (n u) (exact l y at u) (largest u)
+        (λ x t. elim (less u y x t) [ inl old ↦ inl old | inr new ↦ inr new.1 ]) (keeps u y) (λ x t. more u y x (inl y_is) t)))
+        (λ (other : l ≡ head → ⊥).
+        let e : number_in words.clocks.rows l u ≡ number_in mid l u = sym (ap (λ (r : List ℕ). slice_index r u) (elsewhere l other)) in
+        subst (λ (m : ℕ). IsLargest (IsInto after u y) m) e
+        (largest_same (IsInto made u y) (IsInto after u y) (number_in words.clocks.rows l u) (exact l y at u)
+        (λ x t. elim (less u y x t) [ inl old ↦ old | inr new ↦ absurd (not_led l y at other new.0) ]) (keeps u y)))
+      where
+        head_is : k ≡ s.number
+        head_is =
+            let c = chained.begins e in
+            let both : Some k ≡ Some s.number = sym mine.1.0 ∙ (ap (λ (p : ℕ). slice_get new.numbers p) c.0 ∙ number_last) in cc
+
+        not_led : (l y : ℕ) → slice_get new.numbers l ≡ Some y → (l ≡ head → ⊥) → (k ≡ y) ⊎ Links made k y → ⊥
+        not_led l y at other (inl same) = other (same_place l head y at (mine.1.0 ∙ ap (λ (z : ℕ). Some z) same))
+        not_led l y at other (inr w) = omega (arith, links_first made well s can k y w, head_is)
+
+    clear_mid : (l : ℕ) → length new.numbers ≤ l → (u : ℕ) → number_in mid l u ≡ 0
+    clear_mid l out u =
+        let w = slice_get_within new.numbers head mine.0 mine.1.0 in
+        ap (λ (r : List ℕ). slice_index r u) (elsewhere l (λ e. omega arith)) ∙ stands.clear l (omega (arith, more_numbers)) u
+
+    -- it has grown at the new store's chain
+    grown : IsGrownAt made after k
+    grown = record {
+      less = λ u y x t. elim (less u y x t) [ inl old ↦ inl old | inr new ↦ inr (new.0, more u k x (inl refl) new.1) ];
+      keeps = keeps;
+      leads = λ y w. links_longer made well s can k y w;
+      led = λ y w. inr (links_less made well s can k y w);
+    }
+
+    at_mid : (u : ℕ) → IsLargest (IsInto after u k) (number_in mid head u)
+    at_mid u = subst (λ (m : ℕ). IsLargest (IsInto after u k) m) (sym (at_head u))
+        (largest_either (IsInto made u k) (New u) (IsInto after u k) (number_in words.clocks.rows head u) (n u) (exact head k mine.1.0 u) (largest u)
+        (λ x t. elim (less u k x t) [ inl old ↦ inl old | inr new ↦ inr new.1 ]) (keeps u k) (λ x t. more u k x (inl refl) t))
+
+    there : (l y : ℕ) → slice_get new.numbers l ≡ Some y → (e : Kept) × (slice_get new.kept l ≡ Some e)
+    there l y at = elim (number_cases l y at) [
+      | inl old ↦ let t = store_at words made stands l y old in let o = still_kept l t.0 t.1.0 s.after refl in (o.0, o.1.0)
+      | inr now ↦ (own, subst (λ (p : ℕ). slice_get new.kept p ≡ Some own) (sym now.0) kept_last)
+    ]
+
+    heads : (l y : ℕ) (e : Kept) → slice_get new.numbers l ≡ Some y → slice_get new.kept l ≡ Some e → IsAdded stores y (λ u. u.after ≡ None) → e.head ≡ l
+    heads l y e at kept begins = elim (number_cases l y at) [
+      | inl old ↦
+          let t = store_at words made stands l y old in
+          let is = stands.each l t.0 t.1.0 in
+          let o = still_kept l t.0 t.1.0 s.after refl in
+          let both : Some o.0 ≡ Some e = sym o.1.0 ∙ kept in
+          let same : o.0 ≡ e = cc in
+          sym (ap (λ (z : Kept). z.head) same) ∙ (o.1.1.1.1.0 ∙ head_at words made stands l y is.kept old is.is begins)
+      | inr now ↦ absurd (omega (arith, now.1, larger made well s can y (λ u. u.after ≡ None) begins))
+    ]
+
+    -- a store that goes on from another is spread
+    module _ (y : ℕ) (goes : s.after ≡ Some y) where
+      at_y : (i : ℕ) × ((slice_get words.numbers i ≡ Some y) × ((e : Kept) × (slice_get words.kept i ≡ Some e)))
+      at_y =
+          let place = number_at words made stands y (λ u. u.cell ≡ s.cell) (can.goes_on y goes).of_cell in
+          let e = kept_there words made stands place.0 y place.1 in
+          (place.0, (place.1, (e.0, e.1)))
+
+      -- the head is an old one
+      old_head : (h : ℕ) × ((slice_get words.numbers head ≡ Some h) × IsAdded stores h (λ u. u.after ≡ None))
+      old_head =
+          let c = chained.goes_on y at_y.0 at_y.1.1.0 goes (rising words made stands) at_y.1.0 at_y.1.1.1 in
+          let chain = chain_at words made stands at_y.0 y at_y.1.1.0 at_y.1.0 at_y.1.1.1 in
+          (chain.0, (ap (λ (p : ℕ). slice_get words.numbers p) c.0 ∙ chain.1.0, chain_head stores chain.0 at_y.1.1.0.rank y chain.1.1))
+
+      same_head : old_head.0 ≡ k
+      same_head = let both : Some old_head.0 ≡ Some k = sym (number_more head old_head.0 old_head.1.0) ∙ mine.1.0 in cc
+
+      spread_longer : (final : Words) → SpreadsFrom (record new { clocks = record new.clocks { rows = mid } }) final head → Tracks final after
+      spread_longer final sp =
+          let number_is : sp.number ≡ k = let both : Some sp.number ≡ Some k = sym sp.at ∙ mine.1.0 in cc in
+          let begins : IsAdded stores k (λ u. u.after ≡ None) = subst (λ (z : ℕ). IsAdded stores z (λ u. u.after ≡ None)) same_head old_head.1.1 in
+          let at_old : slice_get words.numbers head ≡ Some k = old_head.1.0 ∙ ap (λ (z : ℕ). Some z) same_head in
+          let kept = kept_cases head k sp.kept at_old sp.is in
+          let none : slice_get new.clocks.leads head ≡ Some false → (y : ℕ) → Links made k y → ⊥ = λ flag y w. fresh head k mine.1.0 flag y (links_longer made well s can k y w) in
+          let spread : IsSpread new.kept mid final.clocks.rows 0 head sp.kept.cell sp.kept.thread k =
+          subst (λ (x : ℕ). IsSpread new.kept mid final.clocks.rows 0 head sp.kept.cell sp.kept.thread x) number_is
+          (spread_always (record new { clocks = record new.clocks { rows = mid } }) final head sp (λ flag.
+          subst (λ (x : ℕ). IsSpread new.kept mid mid 0 head sp.kept.cell sp.kept.thread x) (sym number_is)
+          (fresh_spread made well new.numbers new.kept words.clocks.rows same_place there exact cells heads head k sp.kept mine.1.0 sp.is begins kept.1 kept.0 (leads_on k) mid elsewhere sp.sized.each (none flag)))) in
+          subst (λ (w : Words). Tracks w after) (sym sp.rest)
+          (tracks_with final.clocks.rows
+          (all_raised made well new.numbers new.kept words.clocks.rows same_place there exact cells heads head k sp.kept mine.1.0 sp.is begins kept.1 kept.0 (leads_on k) mid elsewhere after (longer_well made well s can) grown at_mid final.clocks.rows spread)
+          (λ l out u. ap (λ (r : List ℕ). slice_index r u) (spread.left l (inr (inr (λ c. let w = slice_get_within new.kept l c.head.here c.head.is in omega (arith, sp.sized.each))))) ∙ clear_mid l out u))
+
+    pub tracks_longer : (final : Words) → NotesStore new final s.after head s.thread s.number → Tracks final after
+    tracks_longer final notes = by_after s.after refl
+      where
+        mid_is : with_number new.clocks.rows head s.thread s.number ≡ mid
+        mid_is = ap (λ (t : Table). with_number t.rows head s.thread s.number) clocks_are
+
+        by_after : (a : Option ℕ) → s.after ≡ a → Tracks final after
+        by_after None e = subst (λ (w : Words). Tracks w after) (sym (notes.begins e ∙ ap (λ (t : List (List ℕ)). record new { clocks = record new.clocks { rows = t } }) mid_is)) (tracks_with mid (begun e) clear_mid)
+        by_after (Some y) e = spread_longer y e final (subst (λ (t : List (List ℕ)). SpreadsFrom (record new { clocks = record new.clocks { rows = t } }) final head) mid_is (notes.goes_on y e))

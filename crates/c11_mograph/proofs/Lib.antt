@@ -1,5 +1,3 @@
-pub mod Bits
-pub mod Rows
 pub mod Places
 pub mod Chains
 pub mod Orders
@@ -12,3 +10,12 @@ pub mod Added
 pub mod Own
 pub mod Grown
 pub mod Precedes
+pub mod Cells
+pub mod Clocked
+pub mod Owning
+pub mod Newest
+pub mod Tables
+pub mod Spreading
+pub mod Longer
+pub mod Sound
+pub mod Pushed

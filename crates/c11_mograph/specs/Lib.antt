@@ -1,7 +1,8 @@
-pub mod Table
+pub mod Heads
+pub mod Spread
 pub mod Made
 pub mod Words
 pub mod Graph
 pub mod Lists
-pub mod Places
 pub mod Parts
+pub mod Clocks

@@ -91,6 +91,11 @@ abbrev pub previous : List Store → ℕ → ℕ → Option ℕ
 previous [] cell thread = None
 previous (s ∷ ss) cell thread = or_else (previous ss cell thread) (if nat_eq s.cell cell && nat_eq s.thread thread then Some s.number else None)
 
+-- the number, or 0 without one
+abbrev pub number_of : Option ℕ → ℕ
+number_of None = 0
+number_of (Some x) = x
+
 abbrev pub list_of : Option ℕ → List ℕ
 list_of None = []
 list_of (Some x) = x ∷ []
@@ -113,6 +118,7 @@ pub record GoesOnFrom (made : Made) (s : Store) (y : ℕ) : Type 0 where
 
 -- a further store has a larger number than all before
 pub record CanAdd (made : Made) (s : Store) : Type 0 where
+  pub positive : 0 < s.number
   pub larger : (place : ℕ) (t : Store) → slice_get made.stores place ≡ Some t → t.number < s.number
   pub goes_on : (y : ℕ) → s.after ≡ Some y → GoesOnFrom made s y
 

@@ -1,8 +1,8 @@
 //! Random graphs, reached as in a plain closure.
 ghost use Rattle.std.specs.Prelude.{◌≡◌, ◌<◌, ◌≤◌, OnOk, length};
-ghost use Rattle.c11_mograph.specs.Words.{AddsOne, KeepsAllButBits};
+ghost use Rattle.c11_mograph.specs.Words.{AddsOne, KeepsAllButClocks};
 
-use super::graph::{add, open};
+use super::graph::{add, is_reached, open};
 use super::mismatch::{Mismatch, expect};
 use c11_mograph::Graph;
 use rand_core::utils::NextWord;
@@ -89,7 +89,7 @@ fn link_two(
     place: usize,
 ) -> Result<(), Mismatch>
     requires { place < 12 }
-    ensures { OnOk result (KeepsAllButBits graph.old graph.new) }
+    ensures { OnOk result (KeepsAllButClocks graph.old graph.new) }
 {
     let a = words.next_word() as usize % (place + 1);
     let b = words.next_word() as usize % (place + 1);
@@ -109,7 +109,7 @@ fn compare(alloc: Global, graph: &Graph, plain: &Plain, count: u32) -> Result<()
 {
     for from in 0..count {
         for to in 0..count {
-            let found = graph.reaches(from + 1, to + 1);
+            let found = is_reached(graph, from + 1, to + 1);
             let wanted = plain.reaches(from as usize, to as usize);
             expect(alloc, "whether a store is reached", &found, &wanted)?;
         }

@@ -4,9 +4,12 @@ ghost use Rattle.c11_mograph.specs.Words.{AddsOne};
 
 use super::mismatch::Mismatch;
 use super::row::Row;
+use c11_clock::Steps;
 use c11_mograph::Graph;
 use c11_tables::Part;
 use std::alloc::Global;
+use std::marker::Brand;
+use std::sync::ledger::{Blank, Ledger};
 
 /// A graph of one cell and four threads.
 pub fn open(alloc: Global) -> Result<Graph, Mismatch>
@@ -29,6 +32,21 @@ pub fn add(graph: &mut Graph, number: u32, thread: u32, after: Option<u32>) -> R
     Ok(())
 }
 
+// Whether the second store is reached from the first, by steps of the blank's ledger.
+fn reached_by_steps<L: Ledger>(graph: &Graph, from: u32, to: u32, blank: Blank) -> bool
+    requires name { blank.name ≡ L.name }
+    requires parts { blank.parts ≡ L.parts }
+    requires some { 0 < L.parts }
+{
+    let mut steps = Steps::<L>::new(blank);
+    graph.reaches(from, to, &mut steps)
+}
+
+/// Whether the second store is reached from the first.
+pub fn is_reached(graph: &Graph, from: u32, to: u32) -> bool {
+    reached_by_steps::<Brand>(graph, from, to, Blank::new(1))
+}
+
 /// `stores STORES`: all that there are. `ends STORE yes`, or `no`: whether it ends its chain. `reaches STORE STORE yes`: whether the
 /// second is reached from the first. `precede STORES STORE yes`: whether they may all precede it.
 fn ask(graph: &Graph, row: &Row) -> Result<(), Mismatch>
@@ -44,7 +62,7 @@ fn ask(graph: &Graph, row: &Row) -> Result<(), Mismatch>
             row.expect(&found, &row.is_yes(answer)?)
         }
         ["reaches", from, to, answer] => {
-            let found = graph.reaches(row.number(from)?, row.number(to)?);
+            let found = is_reached(graph, row.number(from)?, row.number(to)?);
             row.expect(&found, &row.is_yes(answer)?)
         }
         ["precede", stores, store, answer] => {

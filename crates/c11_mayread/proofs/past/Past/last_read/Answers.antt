@@ -6,6 +6,10 @@ use Rattle.c11_mayread.specs.Sound.{facts_of}
 use Rattle.c11_mayread.proofs.Recalling.{positive, within, noted_load, no_read, last_read}
 use Rattle.c11_mayread.proofs.past.Past.last_read.Goals as goal
 
+pub last_up_to-requires : goal.last_up_to-requires
+last_up_to-requires c = λ cell thread y noted.
+    positive c.self.invariant.events y (λ e. (loaded_cell e.kind ≡ Some cell) × (e.thread ≡ thread)) ((c.self.invariant.stands.loads cell thread y).0 noted)
+
 pub overflow_sub-load : goal.overflow_sub-load
 overflow_sub-load c =
     let past = c.self.invariant.stands in

@@ -1,10 +1,16 @@
-use Rattle.std.proofs.Common.{◌≡◌, ◌∙◌, ◌++◌, ℕ, List, ap, sym, subst}
+use Rattle.std.proofs.Common.{◌≡◌, ◌∙◌, ◌++◌, ℕ, List, Some, ap, sym, subst}
 use Rattle.c11_mograph.specs.Made.{list_of}
 use Rattle.c11_mayread.specs.Facts.{Facts, IsPastOf}
 use Rattle.c11_mayread.specs.Sound.{facts_of}
 use Rattle.c11_mayread.specs.Priors.{AddsPriorsBy, IsBeforeLastFence}
+use Rattle.c11_events.specs.Events.{stored_cell}
+use Rattle.c11_mayread.proofs.Recalling.{positive}
 use Rattle.c11_mayread.proofs.Listing.{finds_store, finds_read, adds}
 use Rattle.c11_mayread.proofs.past.Past.list_priors_of.Goals as goal
+
+pub last_up_to-store-requires : goal.last_up_to-store-requires
+last_up_to-store-requires c = λ cell thread y noted.
+    positive c.self.invariant.events y (λ e. (stored_cell e.kind ≡ Some cell) × (e.thread ≡ thread)) ((c.self.invariant.stands.stores cell thread y).0 noted)
 
 pub returns-clause-added : goal.returns-clause-added
 returns-clause-added c = λ events e now next.

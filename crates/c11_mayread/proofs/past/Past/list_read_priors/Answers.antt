@@ -21,8 +21,8 @@ loop-of-preserved c = record {
 
 pub returns-clause-priors : goal.returns-clause-priors
 returns-clause-priors c = λ events e past next.
-    let threads = ap (λ (f : Facts). f.threads) c.self.view_is in
-    let all : c.loop-of.of ≡ c.args.self.now.threads = omega (arith, threads) in
-    read_priors events e c.args.cell c.args.self.now.threads
+    let top = ap (λ (f : Facts). f.top) c.self.view_is in
+    let all : c.loop-of.of ≡ c.args.self.now.top = omega (arith, top) in
+    read_priors events e c.args.cell c.args.self.now.top
     (λ a f t. past.within a f (t.is ∙ ap (λ (g : Event). Some g) t.holds)) c.loop-of.priors.items
     (subst (λ (n : ℕ). PriorsBelow events e c.args.cell n c.loop-of.priors.items) all (c.loop-of.invariant.below events e past next))

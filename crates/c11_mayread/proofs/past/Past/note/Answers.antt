@@ -34,7 +34,7 @@ module _ (c : goal.After-note-2) where
   old = facts_of c.self.inside
 
   abbrev new : Facts
-  new = record { threads = c.self.inside.threads; happens = c.note-2.new.self; order = c.note.new.self; stores = c.note_at.new.latest; loads = c.note_at-2.new.latest; kept = c.put.new.list.items }
+  new = record { threads = c.self.inside.threads; top = c.max-self-inside.result; happens = c.note-2.new.self; order = c.note.new.self; stores = c.note_at.new.latest; loads = c.note_at-2.new.latest; kept = c.put.new.list.items }
 
   now_is : (events : List Event) → IsPastOf old events → IsPastOf c.args.self.now events
   now_is events past = subst (λ (f : Facts). IsPastOf f events) c.self.view_is past
@@ -45,6 +45,7 @@ module _ (c : goal.After-note-2) where
   noted : IsNotedIn old new c.args.event.now c.value.result
   noted = record {
     threads = refl;
+    top = c.max-self-inside.ensures;
     happens = c.note-2.ensures;
     order = λ events stands. c.note.ensures.stands events c.args.event.now stands (record { thread = refl; stored = refl; fence = refl; seq_cst = refl });
     same = c.note.ensures.same;
@@ -61,7 +62,7 @@ module _ (c : goal.After-note-2) where
   thread = let same = ap (λ (f : Facts). f.threads) c.self.view_is in omega (arith, c.requires.next.1.1.thread)
 
   stands : (events : List Event) → IsPastOf c.args.self.now events → ReadsEarlier (events ++ c.args.event.now ∷ []) → IsPastOf new (events ++ c.args.event.now ∷ [])
-  stands events past reads = still_past old new c.args.event.now c.value.result noted events (old_is events past) (next events past) thread reads
+  stands events past reads = still_past old new c.args.event.now c.value.result noted events (old_is events past) (next events past) reads
 
 pub invariant_of-self : goal.invariant_of-self
 invariant_of-self c =
@@ -71,7 +72,7 @@ invariant_of-self c =
     record {
       events = c.requires.next.0 ++ c.args.event.now ∷ [];
       stands = stands c c.requires.next.0 c.requires.next.1.0 c.requires.next.1.1.reads;
-      roomy = still_roomy (old c) (new c) c.args.event.now c.value.result (noted c) c.self.invariant.roomy (omega (arith, c.requires.next.1.1.number)) (omega (arith, c.requires.next.1.1.room));
+      roomy = still_roomy (old c) (new c) c.args.event.now c.value.result (noted c) c.self.invariant.roomy (thread c) (omega (arith, c.requires.next.1.1.number)) (omega (arith, c.requires.next.1.1.room));
       kept_fit = omega (arith, c.self.invariant.kept_fit, c.put.ensures.capacity, ap (λ (t : Trace). t.room) c.note-2.ensures);
     }
 

@@ -16,7 +16,8 @@ returns-clause-stands c = record {
   count = ap (λ (l : List Kept). length l) c.in_ok-with_capacity.ensures.items;
   kept = λ place e at. cc;
   reads = no_reads;
-  within = none_within c.args.threads;
+  within = none_within 0;
+  least = λ bound all. omega arith;
 }
 
 pub invariant_of-result : goal.invariant_of-result
@@ -28,6 +29,7 @@ invariant_of-result c =
       stands = returns-clause-stands c;
       roomy = record {
         threads = ap (λ (t : Trace). t.threads) c.in_ok-open.ensures;
+        top = omega arith;
         order_threads = c.in_ok-open-2.ensures.threads;
         order_room = c.in_ok-open-2.ensures.room ∙ sym room;
         stores = subst (λ (p : ℕ × ℕ). HasRoom p.0 p.1 c.in_ok-open-3.field-0) (λ i. (sym room i, sym none i)) (no_room_taken c.args.events c.in_ok-open-3.field-0 c.in_ok-open-3.ensures);

@@ -17,7 +17,7 @@ returns-then-ends_chain c = λ events e now store from at as_store as_load.
     let is = ap (λ (v : TypedNumber). stores_by c.args.asked.now.writes v) (sym value) ∙ (sym c.stores_by-stores.ensures ∙ c.if-stores.true) in
     let next = next_store (words_of c.self.inside) events stands c.args.asked.now.cell c.args.x store c.last_store_decides.ensures c.args.asked.now refl e from at is in
     store_offered (words_of c.self.inside) events stands c.args.asked.now.cell c.args.x store c.last_store_decides.ensures c.args.asked.now refl e from at is c.ends_chain.result c.if-ends_chain.true c.ends_chain.ensures
-    c.may_follow.result (c.may_follow.ensures events e true now store from next as_store)
+    c.may_follow.result (c.may_follow.ensures events e true now store from next (as_store is))
 
 pub returns-else-ends_chain : goal.returns-else-ends_chain
 returns-else-ends_chain c = λ events e now store from at as_store as_load.
@@ -37,4 +37,4 @@ returns-else-stores c = λ events e now store from at as_store as_load.
     let is = ap (λ (v : TypedNumber). stores_by c.args.asked.now.writes v) (sym value) ∙ (sym c.stores_by-stores.ensures ∙ c.if-stores.false) in
     let next = next_load (words_of c.self.inside) events stands c.args.asked.now.cell c.args.x store c.last_store_decides.ensures c.args.asked.now refl e from at is in
     load_offered (words_of c.self.inside) events stands c.args.asked.now.cell c.args.x store c.last_store_decides.ensures c.args.asked.now refl e from at is
-    c.may_follow-else-stores.result (c.may_follow-else-stores.ensures events e false now store from next as_load)
+    c.may_follow-else-stores.result (c.may_follow-else-stores.ensures events e false now store from next (as_load is))

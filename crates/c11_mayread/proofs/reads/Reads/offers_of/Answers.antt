@@ -4,6 +4,7 @@ use lib.ListN.{get_or}
 use Rattle.c11_events.specs.declared.event.Event.{Event}
 use Rattle.c11_events.specs.Events.{IsStore, stored_cell}
 use Rattle.c11_events.specs.Offered.{IsChainOffered}
+use Rattle.c11_events.specs.Values.{value_of}
 use Rattle.c11_mograph.specs.Made.{stores_of}
 use Rattle.c11_mayread.specs.Standing.{Words, StandsFor}
 use Rattle.c11_mayread.specs.SoundReads.{words_of}
@@ -29,39 +30,41 @@ module _ (words : Words) (events : List Event) (stands : StandsFor words events)
 pub is_offered-requires-clause-store : goal.is_offered-requires-clause-store
 is_offered-requires-clause-store c =
     let stands = c.self.invariant.stands in
-    let list = c.stores-stores.result.now in
+    let list = c.stores-candidates.result.now in
     let at = slice_get-get_or list c.loop-x.x-index 0 c.loop-x-test.true in
     positive c.self.invariant.events (get_or list c.loop-x.x-index 0) (λ e. stored_cell e.kind ≡ Some c.args.asked.now.cell)
-    (store_at (words_of c.self.inside) c.self.invariant.events stands c.args.asked.now.cell list (c.stores-stores.ensures stands.made stands.graph) c.loop-x.x-index (get_or list c.loop-x.x-index 0) at)
+    (store_at (words_of c.self.inside) c.self.invariant.events stands c.args.asked.now.cell list (c.stores-candidates.ensures stands.made stands.graph) c.loop-x.x-index (get_or list c.loop-x.x-index 0) at)
 
 pub is_offered-requires-clause-noted : goal.is_offered-requires-clause-noted
 is_offered-requires-clause-noted c =
     let stands = c.self.invariant.stands in
-    let list = c.stores-stores.result.now in
+    let list = c.stores-candidates.result.now in
     let at = slice_get-get_or list c.loop-x.x-index 0 c.loop-x-test.true in
     let le = within c.self.invariant.events (get_or list c.loop-x.x-index 0) (λ e. stored_cell e.kind ≡ Some c.args.asked.now.cell)
-    (store_at (words_of c.self.inside) c.self.invariant.events stands c.args.asked.now.cell list (c.stores-stores.ensures stands.made stands.graph) c.loop-x.x-index (get_or list c.loop-x.x-index 0) at) in
+    (store_at (words_of c.self.inside) c.self.invariant.events stands c.args.asked.now.cell list (c.stores-candidates.ensures stands.made stands.graph) c.loop-x.x-index (get_or list c.loop-x.x-index 0) at) in
     let count = stands.past.count in
     let same = ap (λ (w : Words). length w.past.kept) c.self.view_is in
     omega arith
 
 pub loop-x-init : goal.loop-x-init
-loop-x-init c = λ events reading now at. picked_none (IsChainOffered events c.args.thread reading c.args.asked.now.cell) c.stores-stores.result.now c.new-offers.result.items c.new-offers.ensures.items
+loop-x-init c = λ events reading now at. picked_none (IsChainOffered events c.args.thread reading c.args.asked.now.cell) c.stores-candidates.result.now c.new-offers.result.items c.new-offers.ensures.items
 
 pub loop-x-preserved : goal.loop-x-preserved
 loop-x-preserved c = λ events reading now asked.
     let stands : StandsFor (words_of c.self.inside) events = subst (λ (w : Words). StandsFor w events) (sym c.self.view_is) now in
     let cell = c.args.asked.now.cell in
-    let list = c.stores-stores.result.now in
+    let list = c.stores-candidates.result.now in
     let x = get_or list c.loop-x.x-index 0 in
     let at : slice_get list c.loop-x.x-index ≡ Some x = slice_get-get_or list c.loop-x.x-index 0 c.loop-x-test.true in
-    let is = c.stores-stores.ensures stands.made stands.graph in
+    let is = c.stores-candidates.ensures stands.made stands.graph in
     let store = store_at (words_of c.self.inside) events stands cell list is c.loop-x.x-index x at in
     let e : Event = record { number = length events + 1; thread = c.args.thread; kind = reading x; from = x } in
     let P : ℕ → Type 0 = IsChainOffered events c.args.thread reading cell in
     let decided = c.is_offered.ensures events e now store refl (asked x)
-    (subst (λ (l : List ℕ). ListsPriors events c.args.thread cell c.args.asked.now.seq_cst_store true l) (sym c.as_slice.ensures.value) (c.in_ok-as_store.ensures events now))
-    (subst (λ (l : List ℕ). ListsPriors events c.args.thread cell c.args.asked.now.seq_cst_load false l) (sym c.as_slice-in-loop-x.ensures.value) (c.in_ok-as_load.ensures events now)) in
+    (λ writes. subst (λ (l : List ℕ). ListsPriors events c.args.thread cell c.args.asked.now.seq_cst_store true l) (sym c.as_slice.ensures.value)
+    (c.in_ok-as_store.ensures.needed (c.may_store-stores.ensures.1 (value_of events x, writes)) events now))
+    (λ loads. subst (λ (l : List ℕ). ListsPriors events c.args.thread cell c.args.asked.now.seq_cst_load false l) (sym c.as_slice-in-loop-x.ensures.value)
+    (c.in_ok-as_load.ensures.needed (c.may_only_load-loads.ensures.1 (value_of events x, loads)) events now)) in
     let before = c.loop-x.invariant events reading now asked in
     let Next : List ℕ → Type 0 = λ xs. ArePicked P list (c.loop-x.x-index + 1) xs in
     elim c.if-is_offered.branch [
@@ -77,7 +80,7 @@ pub returns : goal.returns
 returns c = λ events reading now asked.
     let stands : StandsFor (words_of c.self.inside) events = subst (λ (w : Words). StandsFor w events) (sym c.self.view_is) now in
     let cell = c.args.asked.now.cell in
-    let list = c.stores-stores.result.now in
-    let is = c.stores-stores.ensures stands.made stands.graph in
+    let list = c.stores-candidates.result.now in
+    let is = c.stores-candidates.ensures stands.made stands.graph in
     picked_all (IsChainOffered events c.args.thread reading cell) list c.loop-x.x-index c.loop-x.offers.items c.loop-x-test.false
     (λ x p. at_store (words_of c.self.inside) events stands cell list is x p.store) (c.loop-x.invariant events reading now asked)

@@ -8,4 +8,4 @@ use Rattle.c11_mayread.proofs.reads.Reads.offers_of.Given as goal
 
 abbrev pub invariant-loop-x : goal.invariant-loop-x
 invariant-loop-x l = (events : List Event) (reading : ℕ → EventKind) → StandsFor l.self events → ((x : ℕ) → IsAskedAt l.asked events (reading x) x)
-    → ArePicked (IsChainOffered events l.thread reading l.asked.cell) l.stores l.x-index l.offers.items
+    → ArePicked (IsChainOffered events l.thread reading l.asked.cell) l.candidates l.x-index l.offers.items
