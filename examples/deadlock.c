@@ -23,3 +23,16 @@ int main(void) {
   thrd_join(t, NULL);
   return 0;
 }
+
+/* ./c11t campaign < examples/deadlock.c finds the deadlock in 39 runs of a hundred, and seed 2 as the least that gets through:
+
+   campaign 1 first 0 count 100 steps 2000
+   done 61 2
+   bound 0 -
+   race 0 -
+   assert 0 -
+   fault 0 -
+   local 0 -
+   deadlock 39 0
+   outputs 1
+   100 - */
