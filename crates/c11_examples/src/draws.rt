@@ -2,8 +2,9 @@
 ghost use Rattle.std.specs.Prelude.{◌≡◌, ◌<◌, Some};
 ghost use Rattle.c11_events.specs.Offered.{op_cell};
 
-use super::acts::{add, exchange, load};
+use super::acts::{int, load};
 use c11_events::{Op, Order};
+use c11_num::RmwKind;
 use rand_core::utils::NextWord;
 use rand_pcg::Pcg32;
 
@@ -35,20 +36,37 @@ pub fn drawn_value(words: &mut Pcg32) -> i32 {
     }
 }
 
-/// A load, an addition or a compare-exchange of the cell.
+pub fn drawn_kind(words: &mut Pcg32) -> RmwKind {
+    match draw(words, 6) {
+        0 => RmwKind::Add,
+        1 => RmwKind::Sub,
+        2 => RmwKind::And,
+        3 => RmwKind::Or,
+        4 => RmwKind::Xor,
+        _ => RmwKind::Exchange,
+    }
+}
+
+/// A load, a read-modify-write or a compare-exchange, weak or not, of the cell.
 pub fn drawn_read(words: &mut Pcg32, cell: u32) -> Op
     ensures { op_cell result ≡ Some cell }
 {
     let order = drawn_order(words);
     match draw(words, 4) {
         0 | 1 => load(cell, order),
-        2 => add(cell, order, 1),
-        _ => exchange(
+        2 => Op::Rmw {
             cell,
             order,
-            drawn_order(words),
-            drawn_value(words),
-            drawn_value(words),
-        ),
+            kind: drawn_kind(words),
+            operand: int(drawn_value(words)),
+        },
+        _ => Op::CompareExchange {
+            cell,
+            success: order,
+            failure: drawn_order(words),
+            weak: draw(words, 2) == 1,
+            expected: int(drawn_value(words)),
+            desired: int(drawn_value(words)),
+        },
     }
 }

@@ -118,6 +118,92 @@ fn read(
     }
 }
 
+// A fence of the thread, or its access of a plain cell, is the next event.
+fn fence_or_plain(
+    words: &mut Pcg32,
+    reads: &mut Reads,
+    events: &mut Vec<Event>,
+    thread: u32,
+) -> Result<(), Stop>
+    requires kept { IsKept reads.old events.old.items }
+    requires thread { thread < 4 }
+    ensures { OnOk result (IsKept reads.new events.new.items) }
+{
+    let cell = draw(words, 2);
+    match draw(words, 4) {
+        0 => other(reads, events, thread, &Op::PlainRead { cell }),
+        1 => {
+            let value = int(drawn_value(words));
+            other(reads, events, thread, &Op::PlainWrite { cell, value })
+        }
+        _ => {
+            let order = drawn_order(words);
+            other(reads, events, thread, &Op::Fence { order })
+        }
+    }
+}
+
+// An operation of the thread on a mutex is the next event.
+fn mutex(
+    words: &mut Pcg32,
+    reads: &mut Reads,
+    events: &mut Vec<Event>,
+    thread: u32,
+) -> Result<(), Stop>
+    requires kept { IsKept reads.old events.old.items }
+    requires thread { thread < 4 }
+    ensures { OnOk result (IsKept reads.new events.new.items) }
+{
+    let mutex = draw(words, 2);
+    match draw(words, 6) {
+        0 => other(reads, events, thread, &Op::MutexInit { mutex }),
+        1 => other(reads, events, thread, &Op::TryLock { mutex }),
+        2 | 3 => other(reads, events, thread, &Op::Lock { mutex }),
+        _ => other(reads, events, thread, &Op::Unlock { mutex }),
+    }
+}
+
+// The thread ends, or joins another, as the next event.
+fn end_or_join(
+    words: &mut Pcg32,
+    reads: &mut Reads,
+    events: &mut Vec<Event>,
+    thread: u32,
+) -> Result<(), Stop>
+    requires kept { IsKept reads.old events.old.items }
+    requires thread { thread < 4 }
+    ensures { OnOk result (IsKept reads.new events.new.items) }
+{
+    if draw(words, 2) == 0 {
+        return other(reads, events, thread, &Op::End { value: 0 });
+    }
+    let joined = draw(words, 4);
+    other(reads, events, thread, &Op::Join { thread: joined })
+}
+
+// A store of the thread to the cell is the next event.
+fn store(
+    words: &mut Pcg32,
+    reads: &mut Reads,
+    events: &mut Vec<Event>,
+    thread: u32,
+    cell: u32,
+) -> Result<(), Stop>
+    requires kept { IsKept reads.old events.old.items }
+    requires thread { thread < 4 }
+    requires cell { cell < 2 }
+    ensures { OnOk result (IsKept reads.new events.new.items) }
+{
+    let order = drawn_order(words);
+    let value = int(drawn_value(words));
+    other(
+        reads,
+        events,
+        thread,
+        &Op::AtomicStore { cell, order, value },
+    )
+}
+
 // The next event, of one of so many threads.
 fn draw_step(
     words: &mut Pcg32,
@@ -133,25 +219,15 @@ fn draw_step(
 {
     let thread = draw(words, threads);
     let cell = draw(words, 2);
-    match draw(words, 8) {
-        0 | 1 | 2 | 3 => {
+    match draw(words, 12) {
+        0 | 1 | 2 | 3 | 4 => {
             let op = drawn_read(words, cell);
             read(words, reads, events, thread, cell, &op, compared)
         }
-        4 | 5 | 6 => {
-            let order = drawn_order(words);
-            let value = int(drawn_value(words));
-            other(
-                reads,
-                events,
-                thread,
-                &Op::AtomicStore { cell, order, value },
-            )
-        }
-        _ => {
-            let order = drawn_order(words);
-            other(reads, events, thread, &Op::Fence { order })
-        }
+        5 | 6 | 7 => store(words, reads, events, thread, cell),
+        8 | 9 => fence_or_plain(words, reads, events, thread),
+        10 => mutex(words, reads, events, thread),
+        _ => end_or_join(words, reads, events, thread),
     }
 }
 
