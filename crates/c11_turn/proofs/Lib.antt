@@ -1,0 +1,5 @@
+pub mod Histories
+pub mod Following
+pub mod Turning
+pub mod Opening
+pub mod Asking
