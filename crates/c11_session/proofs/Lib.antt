@@ -1,0 +1,14 @@
+pub mod Lists
+pub mod Tickets
+pub mod Accounts
+pub mod Keeping
+pub mod Turning
+pub mod Dealing
+pub mod Looking
+pub mod Polling
+pub mod Fresh
+pub mod Gathering
+pub mod Arriving
+pub mod Ending
+pub mod Composing
+pub mod Working

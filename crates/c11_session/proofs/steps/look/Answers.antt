@@ -1,0 +1,9 @@
+use Rattle.std.proofs.Common.{◌<◌, arith}
+use Rattle.c11_session.proofs.Turning.{looks}
+use Rattle.c11_session.proofs.steps.look.Goals as goal
+
+pub load-requires : goal.load-requires
+load-requires c =
+    let seat = c.args.chair.now in
+    let some_word : 1 < c.args.board.now.table_id.words = omega (arith, c.requires.table.1) in
+    (c.requires.table.0, some_word, looks c.args.board.now.key _ seat.id seat.me.0 seat.me.1 c.requires.idle)
