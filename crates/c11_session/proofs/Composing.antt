@@ -84,6 +84,8 @@ module _ (old mid new : Sitting) (n : Nearer old mid) where
     line = t.line;
     op = t.op;
     told = t.told;
+    of_thread = t.of_thread ∙ number;
+    step = t.step;
     was = was_going old mid n t.was;
     verdict = t.verdict;
     stands = subst (λ (x : Terms). StepVerdict x.bound new.account.seen t.verdict) terms t.stands;
@@ -99,17 +101,21 @@ module _ (old mid new : Sitting) (n : Nearer old mid) where
     was = was_going old mid n t.was;
     goes_on = t.goes_on;
     kept = t.kept ∙ has_ask;
+    may_go_on = t.may_go_on;
+    waited = t.waited;
   }
   tells_after (turn.Stopped v) t = record {
     made = t.made ∙ made;
     verdict = subst (λ (x : Terms). VerdictOf (next_in x new.account.seen) x.bound new.account.seen (Some v)) terms t.verdict;
     stopped = t.stopped;
     for_good = t.for_good;
+    kept = t.kept ∙ has_ask;
   }
   tells_after turn.NoMemory t = record {
     made = t.made ∙ made;
     was = ⊎_elim (λ (x : mid.short ≡ true). inl (sym same_short ∙ x)) (λ (x : mid.account.stopped ≡ false). inr (was_going old mid n x)) t.was;
     for_good = t.for_good;
+    kept = t.kept ∙ has_ask;
   }
 
   pub keeps_after : Keeps mid new → Keeps old new
@@ -169,7 +175,7 @@ module _ (p mid q : Place) (answer : Turn) (h : IsSeated p) (going : IsOver p.ch
       record {
         for_good = λ up. let both : true ≡ false = sym up ∙ holds.0 in cc;
         waits = λ goes waited seen stopped.
-            ⊎_elim (λ (x : a.waited ≤ step_count a.seen). omega (arith, x, waited)) (λ (x : a.stopped ≡ true). let both : true ≡ false = sym (keeps_played.stays x).0 ∙ stopped in cc) holds.1;
+            ⊎_elim (λ (x : a.waited ≤ step_count a.seen). absurd (omega (arith, x, waited))) (λ (x : a.stopped ≡ true). let both : true ≡ false = sym (keeps_played.stays x).0 ∙ stopped in cc) holds.1;
       }
 
 -- ---- a load first
@@ -190,8 +196,10 @@ module _ (old mid new : Sitting) (front : Front) (l : Looks old mid front) (k : 
         for_good = λ up. let both : true ≡ false = sym up ∙ goes_on in cc;
         waits = λ goes waited seen stopped.
             let whole = nothing_yet seen in
-            again.waits (ap (λ (s : Sitting). s.account.given_up) l.same ∙ goes) (account (λ (x : Account). x.waited) ∙ (waited ∙ ap (λ (es : List Entry). step_count es + 1) (sym whole))) (seen ∙ sym whole) stopped
-            ∙ account (λ (x : Account). x.drawn);
+            let still =
+            again.waits (ap (λ (s : Sitting). s.account.given_up) l.same ∙ goes) (account (λ (x : Account). x.waited) ∙ (waited ∙ ap (λ (es : List Entry). step_count es + 1) (sym whole)))
+            (seen ∙ sym whole) stopped
+            in (still.0 ∙ account (λ (x : Account). x.drawn), still.1);
       }
 
   not_over : (IsOver mid.account.made → ⊥) → IsOver old.account.made → ⊥

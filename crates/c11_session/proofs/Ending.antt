@@ -1,5 +1,5 @@
 -- What the end of a turn leaves of a seat.
-use Rattle.std.proofs.Common.{◌≡◌, ℕ, ◌<◌, ◌≤◌, inl, inr, Bool, true, false, List, [], ◌∷◌, ◌++◌, length, Option, Some, None, refl, sym, ap, ◌∙◌, subst, arith, ⊎_elim}
+use Rattle.std.proofs.Common.{◌≡◌, ℕ, ◌+◌, ◌<◌, ◌≤◌, inl, inr, Bool, true, false, List, [], ◌∷◌, ◌++◌, length, Option, Some, None, refl, sym, ap, ◌∙◌, subst, arith, ⊎_elim}
 use Rattle.std.specs.Prelude.{◌↔◌, IsTrue, is_some}
 use Rattle.std.proofs.lemmas.List.{map-append}
 use mathlib.Core.List.{IsPrefix}
@@ -23,7 +23,7 @@ use Rattle.c11_turn.specs.declared.turns.Turned.{Turned}
 use Rattle.c11_turn.specs.declared.turns.Turned.TheVariants as deed
 use Rattle.c11_turn.specs.Asking.{IsOver}
 use Rattle.c11_turn.specs.Hand.{FollowsTerms, next_in}
-use Rattle.c11_turn.proofs.Asking.{over_last, own_gained}
+use Rattle.c11_turn.proofs.Asking.{over_by, over_last, own_gained}
 use Rattle.c11_session.specs.declared.answer.Turn.TheVariants as answer
 use Rattle.c11_session.specs.declared.place.Place.{Place}
 use Rattle.c11_session.specs.declared.place.Rest.{Rest}
@@ -37,12 +37,6 @@ use Rattle.c11_session.specs.Steps.{Ending, EndsTurn, Leaves, MayEnd, account_af
 use Rattle.c11_session.specs.Turns.{Held, HasReason}
 use Rattle.c11_session.proofs.Accounts.{steps_prefix}
 use Rattle.c11_session.proofs.Lists.{prefix_self}
-
--- with a last step that ends its thread it is over
-over_by : (xs : List Entry) (e : Entry) → Ends e.op e.reply → IsOver (xs ++ e ∷ [])
-over_by [] e ends = ends
-over_by (x ∷ []) e ends = ends
-over_by (x ∷ y ∷ xs) e ends = over_by (y ∷ xs) e ends
 
 -- ---- before the end
 
@@ -214,6 +208,8 @@ module _ {p : Place} {reply : Reply} {word : ℕ} (h : HasPlayed p (deed.Went re
           line = h.turn.does.line;
           op = h.turn.does.op;
           told = h.turn.does.told;
+          of_thread = h.turn.does.of_thread;
+          step = h.turn.does.step;
           was = goes_still h h.turn.does.none;
           verdict = h.memory.verdict;
           stands = subst (λ (es : List Entry). StepVerdict p.terms.bound es h.memory.verdict) (sym seen) h.turn.does.verdict;
@@ -261,6 +257,8 @@ module _ {p : Place} {holder : Holder} {count word : ℕ} (h : HasPlayed p (deed
           was = goes_still h h.turn.does.none;
           goes_on = stopped_after h waits chair ended ∙ ap is_some undecided;
           kept = refl;
+          may_go_on = ap (λ (a : Account). a.given_up) (mine_after h waits chair ended);
+          waited = ap (λ (a : Account). a.waited) (mine_after h waits chair ended) ∙ ap (λ (es : List Entry). step_count es + 1) (sym seen);
         };
         counts = counts_after h waits chair ended;
         short = refl;
@@ -288,6 +286,7 @@ module _ {p : Place} {v : Verdict} {word : ℕ} (h : HasPlayed p (deed.Stopped v
       verdict = subst (λ (es : List Entry). VerdictOf (next_in p.terms es) p.terms.bound es (Some v)) (sym (seen_after h for_good chair ended)) h.turn.does.verdict;
       stopped = stopped_after h for_good chair ended ∙ decided;
       for_good = ap (λ (a : Account). a.given_up) (mine_after h for_good chair ended);
+      kept = refl;
     };
     counts = counts_after h for_good chair ended;
     short = refl;
@@ -311,6 +310,7 @@ module _ {p : Place} {word : ℕ} (h : HasPlayed p deed.NoMemory word) where
       made = made_kept h for_good chair ended same_short;
       was = inr (goes_still h h.turn.does.none);
       for_good = ap (λ (a : Account). a.given_up) (mine_after h for_good chair ended);
+      kept = refl;
     };
     counts = counts_after h for_good chair ended;
     short = refl;

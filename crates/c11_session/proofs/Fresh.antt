@@ -55,13 +55,15 @@ module _ (chair : Seat Held View) (terms : Terms) (thread : Standing) (number : 
         holds = (ap (λ (x : Account). x.given_up) mine_is, inl (omega (arith, waited)));
       }
 
-  pub fresh_is : IsFresh (record { table = chair.table_id; terms = terms }) number (sitting_of (placed chair terms thread))
-  fresh_is = record {
+  pub fresh_is : number < thread_limit → FollowsTerms terms (init_entries (program_in terms).setting.atomic)
+      → IsFresh (record { table = chair.table_id; terms = terms }) number (sitting_of (placed chair terms thread))
+  fresh_is below follows = record {
     table = refl;
     terms = refl;
     account = mine_is;
     number = is_number;
     stands = started;
+    part = (fresh_seated below follows).part;
     asks_nothing = refl;
     is_well = refl;
   }

@@ -9,7 +9,7 @@ use Rattle.c11_events.specs.declared.reply.Reply.{Reply}
 use Rattle.c11_events.specs.declared.verdict.Verdict.{Verdict}
 use Rattle.c11_events.specs.EventOf.{events_of}
 use Rattle.c11_events.specs.Replies.{thread_limit}
-use Rattle.c11_events.specs.Steps.{own_steps, step_count}
+use Rattle.c11_events.specs.Steps.{is_init, own_steps, step_count}
 use Rattle.c11_events.specs.Threads.{blocked_by}
 use Rattle.c11_events.specs.Verdicts.{StepVerdict, VerdictOf}
 use Rattle.c11_flat.specs.Code.{Whole, whole_of}
@@ -87,6 +87,8 @@ pub record Goes (old new : Sitting) (reply : Reply) : Type 0 where
   pub line : entry.line ≡ ask.line
   pub op : entry.op ≡ ask.op
   pub told : entry.reply ≡ reply
+  pub of_thread : entry.thread ≡ old.machine.number
+  pub step : is_init entry.op ≡ false
   pub was : old.account.stopped ≡ false
   pub verdict : Option Verdict
   pub stands : StepVerdict old.terms.bound new.account.seen verdict
@@ -104,6 +106,8 @@ pub record Waits (old new : Sitting) (holder : Holder) (count : ℕ) : Type 0 wh
   pub was : old.account.stopped ≡ false
   pub goes_on : new.account.stopped ≡ false
   pub kept : new.has_ask ≡ old.has_ask
+  pub may_go_on : new.account.given_up ≡ false
+  pub waited : new.account.waited ≡ step_count new.account.seen + 1
 
 -- the seat made nothing; this is the verdict of what it has seen, and it has seen the session stopped
 pub record Stops (old new : Sitting) (v : Verdict) : Type 0 where
@@ -111,12 +115,14 @@ pub record Stops (old new : Sitting) (v : Verdict) : Type 0 where
   pub verdict : VerdictOf (next_in old.terms new.account.seen) old.terms.bound new.account.seen (Some v)
   pub stopped : new.account.stopped ≡ true
   pub for_good : new.account.given_up ≡ true
+  pub kept : new.has_ask ≡ old.has_ask
 
 -- the seat made nothing; it had been out of memory, or the session was not stopped
 pub record RunsShort (old new : Sitting) : Type 0 where
   pub made : new.account.made ≡ old.account.made
   pub was : (old.short ≡ true) ⊎ (old.account.stopped ≡ false)
   pub for_good : new.account.given_up ≡ true
+  pub kept : new.has_ask ≡ old.has_ask
 
 -- what each answer tells
 abbrev pub Tells : Sitting → Sitting → Turn → Type 0
@@ -139,12 +145,13 @@ abbrev pub says_short : Turn → Bool
 says_short turn.NoMemory = true
 says_short _ = false
 
--- An answer that stays. A seat that was told the verdict, or that memory ran out, takes no turn any more, and nothing of it changes. One
--- that waits draws no ticket where nothing was added and the session is not stopped.
+-- An answer that stays. A seat that was told the verdict, or that memory ran out, takes no turn any more, and nothing of it changes: so it
+-- is told the same. One that waits draws no ticket where nothing was added and the session is not stopped, and gives up nothing: so it is
+-- told again that it waits.
 pub record Again (old new : Sitting) : Type 0 where
   pub for_good : old.account.given_up ≡ true → new ≡ old
   pub waits : old.account.given_up ≡ false → old.account.waited ≡ step_count old.account.seen + 1 → new.account.seen ≡ old.account.seen → new.account.stopped ≡ false
-      → new.account.drawn ≡ old.account.drawn
+      → (new.account.drawn ≡ old.account.drawn) × (new.account.given_up ≡ false)
 
 -- what the thread asks for is in hand, or the thread is over
 abbrev pub MayAsk : Sitting → Type 0

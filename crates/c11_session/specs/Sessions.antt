@@ -18,7 +18,7 @@ use Rattle.c11_turn.specs.Hand.{FollowsTerms, IsMemoryOf, next_in}
 use Rattle.c11_session.specs.declared.rule.Account.{Account}
 use Rattle.c11_session.specs.declared.rule.Stage.TheVariants.{Idle}
 use Rattle.c11_session.specs.declared.rule.View.{View}
-use Rattle.c11_session.specs.Seats.{Sitting}
+use Rattle.c11_session.specs.Seats.{Sitting, TakesPart}
 use Rattle.c11_session.specs.Turns.{Held, first_account, first_view}
 use Rattle.c11_session.specs.Views.{countdown}
 
@@ -47,6 +47,7 @@ pub record IsFresh (session : Sharing) (thread : ℕ) (s : Sitting) : Type 0 whe
   pub account : s.account ≡ fresh_account session.terms thread
   pub number : s.machine.number ≡ thread
   pub stands : (code : Whole) → Stands code s.machine []
+  pub part : TakesPart s
   pub asks_nothing : s.has_ask ≡ false
   pub is_well : s.short ≡ false
 

@@ -61,8 +61,8 @@ pub record OneHistory (history : List Entry) (stopped : Bool) (views : List View
   pub seen : EachAccount (λ a. IsPrefix a.seen history) views
   pub turn : Each (λ v. IsInTurn v → (v.mine.seen ≡ history) × (v.mine.stopped ≡ stopped)) views
 
--- The slot is in the hands of the seat whose view is in turn, and at home where there is none. The home value is a memory whose
--- history is the one history.
+-- The slot is away from home, in the hands of the seat whose view is in turn, and at home where there is none. The home value is a
+-- memory whose history is the one history.
 pub record SlotIsHeld (history : List Entry) (s : State Held View) : Type 0 where
   pub out : Each (λ v. IsInTurn v → s.homes ≡ none ∷ []) s.views
   pub home : NoneIsInTurn s.views → (memory : Execution) × (s.homes ≡ some (Some memory) ∷ []) × (memory.history ≡ history)

@@ -1,5 +1,5 @@
 ghost use Rattle.std.specs.Prelude.{◌≡◌, OnErr, OnOk};
-ghost use Rattle.c11_session.specs.Seats.{Advances, MayAsk, StopsShort, code_in};
+ghost use Rattle.c11_session.specs.Seats.{Advances, MayAsk, StopsShort, TakesPart, code_in};
 
 use crate::place::Place;
 use c11_machine::Code;
@@ -45,6 +45,7 @@ impl Seat {
     pub fn advance(&mut self, code: &Code) -> Result<(), NoMemory>
         requires { code.now ≡ code_in self.old.terms }
         ensures advances { Advances self.old self.new }
+        ensures part { TakesPart self.new }
         ensures asks { OnOk result (MayAsk self.new) }
         ensures short { OnErr result (StopsShort self.old self.new) }
     {

@@ -1,6 +1,6 @@
 //! A session: one execution, and the seats of its threads.
 ghost use Rattle.std.specs.Prelude.{◌≡◌};
-ghost use Rattle.c11_session.specs.Seats.{Again, Answers, Keeps, Looks, MayAsk};
+ghost use Rattle.c11_session.specs.Seats.{Again, Answers, Keeps, Looks, MayAsk, TakesPart};
 
 use crate::answer::Turn;
 use crate::front::Front;
@@ -45,7 +45,8 @@ impl Session {
     /// Loads the front of the execution for this seat. Takes no memory.
     pub fn look(&self, seat: &mut Seat) -> Front
         requires { seat.old.table ≡ self.now.table }
-        ensures { Looks seat.old seat.new result }
+        ensures looks { Looks seat.old seat.new result }
+        ensures part { TakesPart seat.new }
     {
         seat.place.look(&self.table.shared)
     }
@@ -61,6 +62,7 @@ impl Session {
         ensures keeps { Keeps seat.old seat.new }
         ensures answers { Answers seat.old seat.new result }
         ensures again { Again seat.old seat.new }
+        ensures part { TakesPart seat.new }
     {
         seat.place.ask(rt, &self.table.shared)
     }

@@ -72,7 +72,7 @@ over_last [] e over = over
 over_last (x ∷ []) e over = over
 over_last (x ∷ y ∷ xs) e over = over_last (y ∷ xs) e over
 
-over_by : (xs : List Entry) (e : Entry) → Ends e.op e.reply → IsOver (xs ++ e ∷ [])
+pub over_by : (xs : List Entry) (e : Entry) → Ends e.op e.reply → IsOver (xs ++ e ∷ [])
 over_by [] e ends = ends
 over_by (x ∷ []) e ends = ends
 over_by (x ∷ y ∷ xs) e ends = over_by (y ∷ xs) e ends

@@ -47,8 +47,8 @@ pub record IsHome (terms : Terms) (history : List Entry) (memory : Execution) : 
   pub marks : (thread : ℕ) (ask : Ask) → slice_get memory.marks thread ≡ Some (Some ask) → next_in terms history thread ≡ Some ask
   pub verdict : (v : Verdict) → memory.verdict ≡ Some v → VerdictOf (next_in terms history) terms.bound history (Some v)
 
--- What is kept beside it. Where the memory keeps no verdict, neither the last step nor the bound gives one: so a step may follow. The
--- bound is small, which the type of its number does not say inside a rule.
+-- What is kept beside it. Where the memory keeps no verdict, neither the last step nor the bound gives one. The bound is small, which
+-- the type of its number does not say inside a rule.
 pub record IsReady (terms : Terms) (history : List Entry) (memory : Execution) : Type 0 where
   pub undecided : memory.verdict ≡ None → StepVerdict terms.bound history None
   pub few_steps : terms.bound ≤ 10000
@@ -64,7 +64,7 @@ OpenedIsMemory = (terms : Terms) → 0 < terms.bound → terms.bound ≤ 10000
     → IsMemoryOf terms (init_entries terms.program.value.tables.atomics) (opened terms.program.value terms.seed terms.bound)
     × FollowsTerms terms (init_entries terms.program.value.tables.atomics)
 
--- a history that follows has no more steps than the bound, and beside them the Inits of its atomic cells alone
+-- a history that follows has no more steps than the bound, and beside them 4,096 entries at most
 abbrev pub HistoriesAreShort : Type 0
 HistoriesAreShort = (terms : Terms) (history : List Entry) → FollowsTerms terms history → (step_count history ≤ terms.bound) × (length history ≤ atomic_limit + step_count history)
 

@@ -10,7 +10,7 @@ pub fn opened_is_memory()
     ensures { OpenedIsMemory }
 {}
 
-/// A history that follows has no more steps than the bound, and beside them one Init for each atomic cell.
+/// A history that follows has no more steps than the bound, and beside them 4,096 entries at most.
 pub fn histories_are_short()
     ensures { HistoriesAreShort }
 {

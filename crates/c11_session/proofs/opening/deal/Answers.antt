@@ -1,4 +1,4 @@
-use Rattle.std.proofs.Common.{◌≡◌, ◌+◌, ◌-◌, ◌<◌, List, [], ◌∷◌, length, sym, ap, ◌∙◌, subst, arith}
+use Rattle.std.proofs.Common.{◌≡◌, ℕ, ◌+◌, ◌-◌, ◌<◌, List, [], ◌∷◌, length, sym, ap, ◌∙◌, subst, arith}
 use Rattle.std.proofs.lemmas.Bool.Decides.{nat_tests}
 use Rattle.atomic_table.specs.Table.{Me}
 use Rattle.c11_session.specs.declared.rule.View.{View}
@@ -33,4 +33,21 @@ loop-number-preserved c =
       view = c.hand_out-other.ensures.left ∙ (ap (λ (m : Me Held View). (all_but_one m.0, m.1)) inv.view ∙ (λ i. ((rest_left terms n ∙ ap (with_numbers_below terms) back) i, [])));
       count = let long : length c.insert.new.self.items ≡ length (x ∷ c.loop-number.seats.items) = ap length items in omega (arith, long, inv.count, some_number);
       dealt = subst (λ k. FreshFrom session k c.insert.new.self.items) back (subst (λ (seats : List Sitting). FreshFrom session n seats) (sym items) (fresh_more session n x c.loop-number.seats.items fresh inv.dealt));
+    }
+
+pub returns : goal.returns
+returns c =
+    let inv = c.loop-number.invariant in
+    let none_left : c.loop-number.number ≡ 0 = (let t = c.loop-number-test.false in grind (arith, nat_tests)) in
+    let session : Sharing = record { table = c.args.board.now.table_id; terms = c.args.terms.now } in
+    let x : Sitting = c.fresh-2.result in
+    let seats : List Sitting = c.loop-number.seats.items in
+    let items : c.insert-2.new.self.items ≡ x ∷ seats = c.in_ok-insert-2.ensures.items in
+    let same = inv.table ∙ c.requires.table.0 in
+    let fresh : IsFresh session 0 x = subst (λ (s : Sharing). IsFresh s 0 x) (λ i. record { table = same i; terms = c.same-2.ensures i }) c.fresh-2.ensures in
+    let later : FreshFrom session 1 seats = subst (λ k. FreshFrom session (k + 1) seats) none_left inv.dealt in
+    let each : FreshFrom session 0 c.insert-2.new.self.items = subst (λ (xs : List Sitting). FreshFrom session 0 xs) (sym items) (fresh_more session 0 x seats fresh later) in
+    record {
+      all = let long : length c.insert-2.new.self.items ≡ length (x ∷ seats) = ap length items in omega (arith, long, inv.count, none_left);
+      each = λ u s at. let e : 0 + u ≡ u = omega arith in subst (λ (k : ℕ). IsFresh session k s) e (each u s at);
     }
